@@ -1,0 +1,2 @@
+pub mod TensorFunction
+pub mod formers

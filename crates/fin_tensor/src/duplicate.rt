@@ -1,0 +1,39 @@
+ghost use Rattle.std.specs.Prelude.{◌≡◌, IfOk};
+
+use crate::seq::Seq;
+use std::alloc::{AllocError, Global};
+
+/// A type whose values can be copied, with memory where they need it.
+pub trait Duplicate: Sized {
+    fn copy(&self, alloc: Global) -> Result<Self, AllocError>
+        ensures { IfOk result (λ c. c ≡ self.now) };
+}
+
+impl Duplicate for u64 {
+    fn copy(&self, _alloc: Global) -> Result<u64, AllocError> {
+        Ok(*self)
+    }
+}
+
+impl Duplicate for i64 {
+    fn copy(&self, _alloc: Global) -> Result<i64, AllocError> {
+        Ok(*self)
+    }
+}
+
+impl Duplicate for u8 {
+    fn copy(&self, _alloc: Global) -> Result<u8, AllocError> {
+        Ok(*self)
+    }
+}
+
+impl<T: Duplicate + Drop> Duplicate for Seq<T> {
+    fn copy(&self, alloc: Global) -> Result<Seq<T>, AllocError> {
+        let mut copies = Seq::new(alloc);
+        for item in self.as_slice() {
+            let item = item.copy(alloc)?;
+            copies.push(item)?;
+        }
+        Ok(copies)
+    }
+}
