@@ -1,0 +1,4 @@
+pub mod Depth
+pub mod Bindings
+pub mod Scope
+pub mod Headers
