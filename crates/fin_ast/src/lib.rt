@@ -6,9 +6,11 @@
 
 mod checked;
 mod copy;
+mod header;
 mod program;
 mod tree;
 
 pub use checked::{Checked, Dims, LoopWays, Ways};
-pub use program::{Header, Kind, Program};
+pub use header::{Header, Kind};
+pub use program::Program;
 pub use tree::{Expr, Index, Stmt};
