@@ -33,3 +33,57 @@ pub struct Checked {
     pub dims: Dims,
     pub ways: Ways,
 }
+
+impl Dims {
+    /// Equal extents.
+    pub fn copy(&self, alloc: Global) -> Result<Dims, AllocError>
+        ensures { IfOk result (λ d. d ≡ self.now) }
+    {
+        let shapes = self.shapes.copy(alloc)?;
+        let ranges = copy_items(alloc, self.ranges.as_slice())?;
+        Ok(Dims { shapes, ranges })
+    }
+}
+
+impl Duplicate for LoopWays {
+    fn copy(&self, alloc: Global) -> Result<LoopWays, AllocError> {
+        let of = copy_items(alloc, self.of.as_slice())?;
+        Ok(LoopWays { var: self.var, of })
+    }
+}
+
+impl Ways {
+    /// Equal ways.
+    pub fn copy(&self, alloc: Global) -> Result<Ways, AllocError>
+        ensures { IfOk result (λ w. w ≡ self.now) }
+    {
+        let loops = self.loops.copy(alloc)?;
+        Ok(Ways { loops })
+    }
+}
+
+impl Checked {
+    /// An equal program with its extents and ways.
+    pub fn copy(&self, alloc: Global) -> Result<Checked, AllocError>
+        ensures { IfOk result (λ c. c ≡ self.now) }
+    {
+        let program = self.program.copy(alloc)?;
+        let dims = self.dims.copy(alloc)?;
+        let ways = self.ways.copy(alloc)?;
+        Ok(Checked {
+            program,
+            dims,
+            ways,
+        })
+    }
+}
+
+fn copy_items<T: Copy + Drop>(alloc: Global, items: &[T]) -> Result<Seq<T>, AllocError>
+    ensures { IfOk result (λ copies. copies ≡ items.now) }
+{
+    let mut copies = Seq::new(alloc);
+    for item in items {
+        copies.push(*item)?;
+    }
+    Ok(copies)
+}

@@ -8,6 +8,8 @@ mod checked;
 mod copy;
 mod header;
 mod program;
+#[cfg(test)]
+mod tests;
 mod tree;
 
 pub use checked::{Checked, Dims, LoopWays, Ways};
