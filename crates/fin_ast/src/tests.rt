@@ -1,6 +1,5 @@
-use crate::{Expr, Program, Stmt};
+use crate::{Expr, Stmt};
 use fin_base::Op;
-use fin_tensor::Seq;
 use sqlite_items::{Boxed, Items};
 use std::alloc::{AllocError, Global};
 use std::test::Fail;
@@ -24,12 +23,6 @@ fn condition(alloc: Global) -> Result<Stmt, AllocError> {
 
 #[test]
 fn copies_are_made(rt: HostRuntime) -> Result<(), Fail> {
-    let program = Program {
-        headers: Seq::new(rt.alloc()),
-        body: Items::new(rt.alloc()),
-        last: 3,
-    };
-    assert_eq!(rt; program.copy(rt.alloc())?.last, 3);
     let copy = condition(rt.alloc())?.copy(rt.alloc())?;
     let last_line = match &copy {
         Stmt::Cond {
