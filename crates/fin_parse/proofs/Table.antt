@@ -1,0 +1,600 @@
+-- What the table of the grammar keeps, form by form and class by class.
+use Rattle.std.proofs.Common.{◌≡◌, ℕ, ◌<◌, ◌≤◌, ◌==◌, Bool, true, false, not, ◌||◌, ◌&&◌, List, [], ◌∷◌, Option, Some, None, refl, sym, ap, ◌∙◌, lit≤, lit<}
+use Rattle.std.specs.Prelude.{slice_get}
+use Rattle.std.proofs.lemmas.Bool.{eqb-true}
+use Rattle.fin_parse.specs.declared.class.Class.{Class}
+use Rattle.fin_parse.specs.declared.class.Class.TheVariants as class
+use Rattle.fin_parse.specs.declared.grammar.Phrase.{Phrase}
+use Rattle.fin_parse.specs.declared.grammar.Phrase.TheVariants as phrase
+use Rattle.fin_parse.specs.declared.grammar.Form.{Form}
+use Rattle.fin_parse.specs.declared.grammar.Form.TheVariants as form
+use Rattle.fin_parse.specs.Grammar.{phrase_of, row_of, form_at}
+use Rattle.fin_parse.specs.Choices.{is_nullable, are_empty, row_starts, row_continues, goes_on, is_clear, are_sound, row_weight, rank}
+
+pub impossible : {A : Type 0} → false ≡ true → A
+impossible h = absurd (cc)
+
+pub both : (a b : Bool) → a && b ≡ true → (a ≡ true) × (b ≡ true)
+both true b h = (refl, h)
+both false b h = impossible h
+
+pub implied : (a b : Bool) → not a || b ≡ true → a ≡ true → b ≡ true
+implied true b h k = h
+implied false b h k = impossible k
+
+-- ---- a test of every class
+
+abbrev every : (Class → Bool) → Bool
+every t = t class.In && (t class.OutOrTmp && (t class.Fill && (t class.Shape && (t class.Loop && (t class.If && (t class.Let && (t class.Turn && (t class.Protocol && (t class.Call && (t class.Store && (t class.Element && (t class.OpenBracket && (t class.CloseBracket && (t class.OpenParenthesis && (t class.CloseParenthesis && (t class.OpenBrace && (t class.CloseBrace && (t class.Comma && (t class.Tilde && (t class.Plus && (t class.Minus && (t class.Star && (t class.Comparison && (t class.Equals && (t class.Reducing && (t class.Declares && (t class.Dots && (t class.Name && (t class.Number && (t class.Widest && (t class.Unknown && (t class.End))))))))))))))))))))))))))))))))
+
+at_each : (t : Class → Bool) → every t ≡ true → (c : Class) → t c ≡ true
+at_each t h class.In = (both (t class.In) (t class.OutOrTmp && (t class.Fill && (t class.Shape && (t class.Loop && (t class.If && (t class.Let && (t class.Turn && (t class.Protocol && (t class.Call && (t class.Store && (t class.Element && (t class.OpenBracket && (t class.CloseBracket && (t class.OpenParenthesis && (t class.CloseParenthesis && (t class.OpenBrace && (t class.CloseBrace && (t class.Comma && (t class.Tilde && (t class.Plus && (t class.Minus && (t class.Star && (t class.Comparison && (t class.Equals && (t class.Reducing && (t class.Declares && (t class.Dots && (t class.Name && (t class.Number && (t class.Widest && (t class.Unknown && (t class.End)))))))))))))))))))))))))))))))) h).0
+at_each t h class.OutOrTmp = (both (t class.OutOrTmp) (t class.Fill && (t class.Shape && (t class.Loop && (t class.If && (t class.Let && (t class.Turn && (t class.Protocol && (t class.Call && (t class.Store && (t class.Element && (t class.OpenBracket && (t class.CloseBracket && (t class.OpenParenthesis && (t class.CloseParenthesis && (t class.OpenBrace && (t class.CloseBrace && (t class.Comma && (t class.Tilde && (t class.Plus && (t class.Minus && (t class.Star && (t class.Comparison && (t class.Equals && (t class.Reducing && (t class.Declares && (t class.Dots && (t class.Name && (t class.Number && (t class.Widest && (t class.Unknown && (t class.End))))))))))))))))))))))))))))))) (both (t class.In) (t class.OutOrTmp && (t class.Fill && (t class.Shape && (t class.Loop && (t class.If && (t class.Let && (t class.Turn && (t class.Protocol && (t class.Call && (t class.Store && (t class.Element && (t class.OpenBracket && (t class.CloseBracket && (t class.OpenParenthesis && (t class.CloseParenthesis && (t class.OpenBrace && (t class.CloseBrace && (t class.Comma && (t class.Tilde && (t class.Plus && (t class.Minus && (t class.Star && (t class.Comparison && (t class.Equals && (t class.Reducing && (t class.Declares && (t class.Dots && (t class.Name && (t class.Number && (t class.Widest && (t class.Unknown && (t class.End)))))))))))))))))))))))))))))))) h).1).0
+at_each t h class.Fill = (both (t class.Fill) (t class.Shape && (t class.Loop && (t class.If && (t class.Let && (t class.Turn && (t class.Protocol && (t class.Call && (t class.Store && (t class.Element && (t class.OpenBracket && (t class.CloseBracket && (t class.OpenParenthesis && (t class.CloseParenthesis && (t class.OpenBrace && (t class.CloseBrace && (t class.Comma && (t class.Tilde && (t class.Plus && (t class.Minus && (t class.Star && (t class.Comparison && (t class.Equals && (t class.Reducing && (t class.Declares && (t class.Dots && (t class.Name && (t class.Number && (t class.Widest && (t class.Unknown && (t class.End)))))))))))))))))))))))))))))) (both (t class.OutOrTmp) (t class.Fill && (t class.Shape && (t class.Loop && (t class.If && (t class.Let && (t class.Turn && (t class.Protocol && (t class.Call && (t class.Store && (t class.Element && (t class.OpenBracket && (t class.CloseBracket && (t class.OpenParenthesis && (t class.CloseParenthesis && (t class.OpenBrace && (t class.CloseBrace && (t class.Comma && (t class.Tilde && (t class.Plus && (t class.Minus && (t class.Star && (t class.Comparison && (t class.Equals && (t class.Reducing && (t class.Declares && (t class.Dots && (t class.Name && (t class.Number && (t class.Widest && (t class.Unknown && (t class.End))))))))))))))))))))))))))))))) (both (t class.In) (t class.OutOrTmp && (t class.Fill && (t class.Shape && (t class.Loop && (t class.If && (t class.Let && (t class.Turn && (t class.Protocol && (t class.Call && (t class.Store && (t class.Element && (t class.OpenBracket && (t class.CloseBracket && (t class.OpenParenthesis && (t class.CloseParenthesis && (t class.OpenBrace && (t class.CloseBrace && (t class.Comma && (t class.Tilde && (t class.Plus && (t class.Minus && (t class.Star && (t class.Comparison && (t class.Equals && (t class.Reducing && (t class.Declares && (t class.Dots && (t class.Name && (t class.Number && (t class.Widest && (t class.Unknown && (t class.End)))))))))))))))))))))))))))))))) h).1).1).0
+at_each t h class.Shape = (both (t class.Shape) (t class.Loop && (t class.If && (t class.Let && (t class.Turn && (t class.Protocol && (t class.Call && (t class.Store && (t class.Element && (t class.OpenBracket && (t class.CloseBracket && (t class.OpenParenthesis && (t class.CloseParenthesis && (t class.OpenBrace && (t class.CloseBrace && (t class.Comma && (t class.Tilde && (t class.Plus && (t class.Minus && (t class.Star && (t class.Comparison && (t class.Equals && (t class.Reducing && (t class.Declares && (t class.Dots && (t class.Name && (t class.Number && (t class.Widest && (t class.Unknown && (t class.End))))))))))))))))))))))))))))) (both (t class.Fill) (t class.Shape && (t class.Loop && (t class.If && (t class.Let && (t class.Turn && (t class.Protocol && (t class.Call && (t class.Store && (t class.Element && (t class.OpenBracket && (t class.CloseBracket && (t class.OpenParenthesis && (t class.CloseParenthesis && (t class.OpenBrace && (t class.CloseBrace && (t class.Comma && (t class.Tilde && (t class.Plus && (t class.Minus && (t class.Star && (t class.Comparison && (t class.Equals && (t class.Reducing && (t class.Declares && (t class.Dots && (t class.Name && (t class.Number && (t class.Widest && (t class.Unknown && (t class.End)))))))))))))))))))))))))))))) (both (t class.OutOrTmp) (t class.Fill && (t class.Shape && (t class.Loop && (t class.If && (t class.Let && (t class.Turn && (t class.Protocol && (t class.Call && (t class.Store && (t class.Element && (t class.OpenBracket && (t class.CloseBracket && (t class.OpenParenthesis && (t class.CloseParenthesis && (t class.OpenBrace && (t class.CloseBrace && (t class.Comma && (t class.Tilde && (t class.Plus && (t class.Minus && (t class.Star && (t class.Comparison && (t class.Equals && (t class.Reducing && (t class.Declares && (t class.Dots && (t class.Name && (t class.Number && (t class.Widest && (t class.Unknown && (t class.End))))))))))))))))))))))))))))))) (both (t class.In) (t class.OutOrTmp && (t class.Fill && (t class.Shape && (t class.Loop && (t class.If && (t class.Let && (t class.Turn && (t class.Protocol && (t class.Call && (t class.Store && (t class.Element && (t class.OpenBracket && (t class.CloseBracket && (t class.OpenParenthesis && (t class.CloseParenthesis && (t class.OpenBrace && (t class.CloseBrace && (t class.Comma && (t class.Tilde && (t class.Plus && (t class.Minus && (t class.Star && (t class.Comparison && (t class.Equals && (t class.Reducing && (t class.Declares && (t class.Dots && (t class.Name && (t class.Number && (t class.Widest && (t class.Unknown && (t class.End)))))))))))))))))))))))))))))))) h).1).1).1).0
+at_each t h class.Loop = (both (t class.Loop) (t class.If && (t class.Let && (t class.Turn && (t class.Protocol && (t class.Call && (t class.Store && (t class.Element && (t class.OpenBracket && (t class.CloseBracket && (t class.OpenParenthesis && (t class.CloseParenthesis && (t class.OpenBrace && (t class.CloseBrace && (t class.Comma && (t class.Tilde && (t class.Plus && (t class.Minus && (t class.Star && (t class.Comparison && (t class.Equals && (t class.Reducing && (t class.Declares && (t class.Dots && (t class.Name && (t class.Number && (t class.Widest && (t class.Unknown && (t class.End)))))))))))))))))))))))))))) (both (t class.Shape) (t class.Loop && (t class.If && (t class.Let && (t class.Turn && (t class.Protocol && (t class.Call && (t class.Store && (t class.Element && (t class.OpenBracket && (t class.CloseBracket && (t class.OpenParenthesis && (t class.CloseParenthesis && (t class.OpenBrace && (t class.CloseBrace && (t class.Comma && (t class.Tilde && (t class.Plus && (t class.Minus && (t class.Star && (t class.Comparison && (t class.Equals && (t class.Reducing && (t class.Declares && (t class.Dots && (t class.Name && (t class.Number && (t class.Widest && (t class.Unknown && (t class.End))))))))))))))))))))))))))))) (both (t class.Fill) (t class.Shape && (t class.Loop && (t class.If && (t class.Let && (t class.Turn && (t class.Protocol && (t class.Call && (t class.Store && (t class.Element && (t class.OpenBracket && (t class.CloseBracket && (t class.OpenParenthesis && (t class.CloseParenthesis && (t class.OpenBrace && (t class.CloseBrace && (t class.Comma && (t class.Tilde && (t class.Plus && (t class.Minus && (t class.Star && (t class.Comparison && (t class.Equals && (t class.Reducing && (t class.Declares && (t class.Dots && (t class.Name && (t class.Number && (t class.Widest && (t class.Unknown && (t class.End)))))))))))))))))))))))))))))) (both (t class.OutOrTmp) (t class.Fill && (t class.Shape && (t class.Loop && (t class.If && (t class.Let && (t class.Turn && (t class.Protocol && (t class.Call && (t class.Store && (t class.Element && (t class.OpenBracket && (t class.CloseBracket && (t class.OpenParenthesis && (t class.CloseParenthesis && (t class.OpenBrace && (t class.CloseBrace && (t class.Comma && (t class.Tilde && (t class.Plus && (t class.Minus && (t class.Star && (t class.Comparison && (t class.Equals && (t class.Reducing && (t class.Declares && (t class.Dots && (t class.Name && (t class.Number && (t class.Widest && (t class.Unknown && (t class.End))))))))))))))))))))))))))))))) (both (t class.In) (t class.OutOrTmp && (t class.Fill && (t class.Shape && (t class.Loop && (t class.If && (t class.Let && (t class.Turn && (t class.Protocol && (t class.Call && (t class.Store && (t class.Element && (t class.OpenBracket && (t class.CloseBracket && (t class.OpenParenthesis && (t class.CloseParenthesis && (t class.OpenBrace && (t class.CloseBrace && (t class.Comma && (t class.Tilde && (t class.Plus && (t class.Minus && (t class.Star && (t class.Comparison && (t class.Equals && (t class.Reducing && (t class.Declares && (t class.Dots && (t class.Name && (t class.Number && (t class.Widest && (t class.Unknown && (t class.End)))))))))))))))))))))))))))))))) h).1).1).1).1).0
+at_each t h class.If = (both (t class.If) (t class.Let && (t class.Turn && (t class.Protocol && (t class.Call && (t class.Store && (t class.Element && (t class.OpenBracket && (t class.CloseBracket && (t class.OpenParenthesis && (t class.CloseParenthesis && (t class.OpenBrace && (t class.CloseBrace && (t class.Comma && (t class.Tilde && (t class.Plus && (t class.Minus && (t class.Star && (t class.Comparison && (t class.Equals && (t class.Reducing && (t class.Declares && (t class.Dots && (t class.Name && (t class.Number && (t class.Widest && (t class.Unknown && (t class.End))))))))))))))))))))))))))) (both (t class.Loop) (t class.If && (t class.Let && (t class.Turn && (t class.Protocol && (t class.Call && (t class.Store && (t class.Element && (t class.OpenBracket && (t class.CloseBracket && (t class.OpenParenthesis && (t class.CloseParenthesis && (t class.OpenBrace && (t class.CloseBrace && (t class.Comma && (t class.Tilde && (t class.Plus && (t class.Minus && (t class.Star && (t class.Comparison && (t class.Equals && (t class.Reducing && (t class.Declares && (t class.Dots && (t class.Name && (t class.Number && (t class.Widest && (t class.Unknown && (t class.End)))))))))))))))))))))))))))) (both (t class.Shape) (t class.Loop && (t class.If && (t class.Let && (t class.Turn && (t class.Protocol && (t class.Call && (t class.Store && (t class.Element && (t class.OpenBracket && (t class.CloseBracket && (t class.OpenParenthesis && (t class.CloseParenthesis && (t class.OpenBrace && (t class.CloseBrace && (t class.Comma && (t class.Tilde && (t class.Plus && (t class.Minus && (t class.Star && (t class.Comparison && (t class.Equals && (t class.Reducing && (t class.Declares && (t class.Dots && (t class.Name && (t class.Number && (t class.Widest && (t class.Unknown && (t class.End))))))))))))))))))))))))))))) (both (t class.Fill) (t class.Shape && (t class.Loop && (t class.If && (t class.Let && (t class.Turn && (t class.Protocol && (t class.Call && (t class.Store && (t class.Element && (t class.OpenBracket && (t class.CloseBracket && (t class.OpenParenthesis && (t class.CloseParenthesis && (t class.OpenBrace && (t class.CloseBrace && (t class.Comma && (t class.Tilde && (t class.Plus && (t class.Minus && (t class.Star && (t class.Comparison && (t class.Equals && (t class.Reducing && (t class.Declares && (t class.Dots && (t class.Name && (t class.Number && (t class.Widest && (t class.Unknown && (t class.End)))))))))))))))))))))))))))))) (both (t class.OutOrTmp) (t class.Fill && (t class.Shape && (t class.Loop && (t class.If && (t class.Let && (t class.Turn && (t class.Protocol && (t class.Call && (t class.Store && (t class.Element && (t class.OpenBracket && (t class.CloseBracket && (t class.OpenParenthesis && (t class.CloseParenthesis && (t class.OpenBrace && (t class.CloseBrace && (t class.Comma && (t class.Tilde && (t class.Plus && (t class.Minus && (t class.Star && (t class.Comparison && (t class.Equals && (t class.Reducing && (t class.Declares && (t class.Dots && (t class.Name && (t class.Number && (t class.Widest && (t class.Unknown && (t class.End))))))))))))))))))))))))))))))) (both (t class.In) (t class.OutOrTmp && (t class.Fill && (t class.Shape && (t class.Loop && (t class.If && (t class.Let && (t class.Turn && (t class.Protocol && (t class.Call && (t class.Store && (t class.Element && (t class.OpenBracket && (t class.CloseBracket && (t class.OpenParenthesis && (t class.CloseParenthesis && (t class.OpenBrace && (t class.CloseBrace && (t class.Comma && (t class.Tilde && (t class.Plus && (t class.Minus && (t class.Star && (t class.Comparison && (t class.Equals && (t class.Reducing && (t class.Declares && (t class.Dots && (t class.Name && (t class.Number && (t class.Widest && (t class.Unknown && (t class.End)))))))))))))))))))))))))))))))) h).1).1).1).1).1).0
+at_each t h class.Let = (both (t class.Let) (t class.Turn && (t class.Protocol && (t class.Call && (t class.Store && (t class.Element && (t class.OpenBracket && (t class.CloseBracket && (t class.OpenParenthesis && (t class.CloseParenthesis && (t class.OpenBrace && (t class.CloseBrace && (t class.Comma && (t class.Tilde && (t class.Plus && (t class.Minus && (t class.Star && (t class.Comparison && (t class.Equals && (t class.Reducing && (t class.Declares && (t class.Dots && (t class.Name && (t class.Number && (t class.Widest && (t class.Unknown && (t class.End)))))))))))))))))))))))))) (both (t class.If) (t class.Let && (t class.Turn && (t class.Protocol && (t class.Call && (t class.Store && (t class.Element && (t class.OpenBracket && (t class.CloseBracket && (t class.OpenParenthesis && (t class.CloseParenthesis && (t class.OpenBrace && (t class.CloseBrace && (t class.Comma && (t class.Tilde && (t class.Plus && (t class.Minus && (t class.Star && (t class.Comparison && (t class.Equals && (t class.Reducing && (t class.Declares && (t class.Dots && (t class.Name && (t class.Number && (t class.Widest && (t class.Unknown && (t class.End))))))))))))))))))))))))))) (both (t class.Loop) (t class.If && (t class.Let && (t class.Turn && (t class.Protocol && (t class.Call && (t class.Store && (t class.Element && (t class.OpenBracket && (t class.CloseBracket && (t class.OpenParenthesis && (t class.CloseParenthesis && (t class.OpenBrace && (t class.CloseBrace && (t class.Comma && (t class.Tilde && (t class.Plus && (t class.Minus && (t class.Star && (t class.Comparison && (t class.Equals && (t class.Reducing && (t class.Declares && (t class.Dots && (t class.Name && (t class.Number && (t class.Widest && (t class.Unknown && (t class.End)))))))))))))))))))))))))))) (both (t class.Shape) (t class.Loop && (t class.If && (t class.Let && (t class.Turn && (t class.Protocol && (t class.Call && (t class.Store && (t class.Element && (t class.OpenBracket && (t class.CloseBracket && (t class.OpenParenthesis && (t class.CloseParenthesis && (t class.OpenBrace && (t class.CloseBrace && (t class.Comma && (t class.Tilde && (t class.Plus && (t class.Minus && (t class.Star && (t class.Comparison && (t class.Equals && (t class.Reducing && (t class.Declares && (t class.Dots && (t class.Name && (t class.Number && (t class.Widest && (t class.Unknown && (t class.End))))))))))))))))))))))))))))) (both (t class.Fill) (t class.Shape && (t class.Loop && (t class.If && (t class.Let && (t class.Turn && (t class.Protocol && (t class.Call && (t class.Store && (t class.Element && (t class.OpenBracket && (t class.CloseBracket && (t class.OpenParenthesis && (t class.CloseParenthesis && (t class.OpenBrace && (t class.CloseBrace && (t class.Comma && (t class.Tilde && (t class.Plus && (t class.Minus && (t class.Star && (t class.Comparison && (t class.Equals && (t class.Reducing && (t class.Declares && (t class.Dots && (t class.Name && (t class.Number && (t class.Widest && (t class.Unknown && (t class.End)))))))))))))))))))))))))))))) (both (t class.OutOrTmp) (t class.Fill && (t class.Shape && (t class.Loop && (t class.If && (t class.Let && (t class.Turn && (t class.Protocol && (t class.Call && (t class.Store && (t class.Element && (t class.OpenBracket && (t class.CloseBracket && (t class.OpenParenthesis && (t class.CloseParenthesis && (t class.OpenBrace && (t class.CloseBrace && (t class.Comma && (t class.Tilde && (t class.Plus && (t class.Minus && (t class.Star && (t class.Comparison && (t class.Equals && (t class.Reducing && (t class.Declares && (t class.Dots && (t class.Name && (t class.Number && (t class.Widest && (t class.Unknown && (t class.End))))))))))))))))))))))))))))))) (both (t class.In) (t class.OutOrTmp && (t class.Fill && (t class.Shape && (t class.Loop && (t class.If && (t class.Let && (t class.Turn && (t class.Protocol && (t class.Call && (t class.Store && (t class.Element && (t class.OpenBracket && (t class.CloseBracket && (t class.OpenParenthesis && (t class.CloseParenthesis && (t class.OpenBrace && (t class.CloseBrace && (t class.Comma && (t class.Tilde && (t class.Plus && (t class.Minus && (t class.Star && (t class.Comparison && (t class.Equals && (t class.Reducing && (t class.Declares && (t class.Dots && (t class.Name && (t class.Number && (t class.Widest && (t class.Unknown && (t class.End)))))))))))))))))))))))))))))))) h).1).1).1).1).1).1).0
+at_each t h class.Turn = (both (t class.Turn) (t class.Protocol && (t class.Call && (t class.Store && (t class.Element && (t class.OpenBracket && (t class.CloseBracket && (t class.OpenParenthesis && (t class.CloseParenthesis && (t class.OpenBrace && (t class.CloseBrace && (t class.Comma && (t class.Tilde && (t class.Plus && (t class.Minus && (t class.Star && (t class.Comparison && (t class.Equals && (t class.Reducing && (t class.Declares && (t class.Dots && (t class.Name && (t class.Number && (t class.Widest && (t class.Unknown && (t class.End))))))))))))))))))))))))) (both (t class.Let) (t class.Turn && (t class.Protocol && (t class.Call && (t class.Store && (t class.Element && (t class.OpenBracket && (t class.CloseBracket && (t class.OpenParenthesis && (t class.CloseParenthesis && (t class.OpenBrace && (t class.CloseBrace && (t class.Comma && (t class.Tilde && (t class.Plus && (t class.Minus && (t class.Star && (t class.Comparison && (t class.Equals && (t class.Reducing && (t class.Declares && (t class.Dots && (t class.Name && (t class.Number && (t class.Widest && (t class.Unknown && (t class.End)))))))))))))))))))))))))) (both (t class.If) (t class.Let && (t class.Turn && (t class.Protocol && (t class.Call && (t class.Store && (t class.Element && (t class.OpenBracket && (t class.CloseBracket && (t class.OpenParenthesis && (t class.CloseParenthesis && (t class.OpenBrace && (t class.CloseBrace && (t class.Comma && (t class.Tilde && (t class.Plus && (t class.Minus && (t class.Star && (t class.Comparison && (t class.Equals && (t class.Reducing && (t class.Declares && (t class.Dots && (t class.Name && (t class.Number && (t class.Widest && (t class.Unknown && (t class.End))))))))))))))))))))))))))) (both (t class.Loop) (t class.If && (t class.Let && (t class.Turn && (t class.Protocol && (t class.Call && (t class.Store && (t class.Element && (t class.OpenBracket && (t class.CloseBracket && (t class.OpenParenthesis && (t class.CloseParenthesis && (t class.OpenBrace && (t class.CloseBrace && (t class.Comma && (t class.Tilde && (t class.Plus && (t class.Minus && (t class.Star && (t class.Comparison && (t class.Equals && (t class.Reducing && (t class.Declares && (t class.Dots && (t class.Name && (t class.Number && (t class.Widest && (t class.Unknown && (t class.End)))))))))))))))))))))))))))) (both (t class.Shape) (t class.Loop && (t class.If && (t class.Let && (t class.Turn && (t class.Protocol && (t class.Call && (t class.Store && (t class.Element && (t class.OpenBracket && (t class.CloseBracket && (t class.OpenParenthesis && (t class.CloseParenthesis && (t class.OpenBrace && (t class.CloseBrace && (t class.Comma && (t class.Tilde && (t class.Plus && (t class.Minus && (t class.Star && (t class.Comparison && (t class.Equals && (t class.Reducing && (t class.Declares && (t class.Dots && (t class.Name && (t class.Number && (t class.Widest && (t class.Unknown && (t class.End))))))))))))))))))))))))))))) (both (t class.Fill) (t class.Shape && (t class.Loop && (t class.If && (t class.Let && (t class.Turn && (t class.Protocol && (t class.Call && (t class.Store && (t class.Element && (t class.OpenBracket && (t class.CloseBracket && (t class.OpenParenthesis && (t class.CloseParenthesis && (t class.OpenBrace && (t class.CloseBrace && (t class.Comma && (t class.Tilde && (t class.Plus && (t class.Minus && (t class.Star && (t class.Comparison && (t class.Equals && (t class.Reducing && (t class.Declares && (t class.Dots && (t class.Name && (t class.Number && (t class.Widest && (t class.Unknown && (t class.End)))))))))))))))))))))))))))))) (both (t class.OutOrTmp) (t class.Fill && (t class.Shape && (t class.Loop && (t class.If && (t class.Let && (t class.Turn && (t class.Protocol && (t class.Call && (t class.Store && (t class.Element && (t class.OpenBracket && (t class.CloseBracket && (t class.OpenParenthesis && (t class.CloseParenthesis && (t class.OpenBrace && (t class.CloseBrace && (t class.Comma && (t class.Tilde && (t class.Plus && (t class.Minus && (t class.Star && (t class.Comparison && (t class.Equals && (t class.Reducing && (t class.Declares && (t class.Dots && (t class.Name && (t class.Number && (t class.Widest && (t class.Unknown && (t class.End))))))))))))))))))))))))))))))) (both (t class.In) (t class.OutOrTmp && (t class.Fill && (t class.Shape && (t class.Loop && (t class.If && (t class.Let && (t class.Turn && (t class.Protocol && (t class.Call && (t class.Store && (t class.Element && (t class.OpenBracket && (t class.CloseBracket && (t class.OpenParenthesis && (t class.CloseParenthesis && (t class.OpenBrace && (t class.CloseBrace && (t class.Comma && (t class.Tilde && (t class.Plus && (t class.Minus && (t class.Star && (t class.Comparison && (t class.Equals && (t class.Reducing && (t class.Declares && (t class.Dots && (t class.Name && (t class.Number && (t class.Widest && (t class.Unknown && (t class.End)))))))))))))))))))))))))))))))) h).1).1).1).1).1).1).1).0
+at_each t h class.Protocol = (both (t class.Protocol) (t class.Call && (t class.Store && (t class.Element && (t class.OpenBracket && (t class.CloseBracket && (t class.OpenParenthesis && (t class.CloseParenthesis && (t class.OpenBrace && (t class.CloseBrace && (t class.Comma && (t class.Tilde && (t class.Plus && (t class.Minus && (t class.Star && (t class.Comparison && (t class.Equals && (t class.Reducing && (t class.Declares && (t class.Dots && (t class.Name && (t class.Number && (t class.Widest && (t class.Unknown && (t class.End)))))))))))))))))))))))) (both (t class.Turn) (t class.Protocol && (t class.Call && (t class.Store && (t class.Element && (t class.OpenBracket && (t class.CloseBracket && (t class.OpenParenthesis && (t class.CloseParenthesis && (t class.OpenBrace && (t class.CloseBrace && (t class.Comma && (t class.Tilde && (t class.Plus && (t class.Minus && (t class.Star && (t class.Comparison && (t class.Equals && (t class.Reducing && (t class.Declares && (t class.Dots && (t class.Name && (t class.Number && (t class.Widest && (t class.Unknown && (t class.End))))))))))))))))))))))))) (both (t class.Let) (t class.Turn && (t class.Protocol && (t class.Call && (t class.Store && (t class.Element && (t class.OpenBracket && (t class.CloseBracket && (t class.OpenParenthesis && (t class.CloseParenthesis && (t class.OpenBrace && (t class.CloseBrace && (t class.Comma && (t class.Tilde && (t class.Plus && (t class.Minus && (t class.Star && (t class.Comparison && (t class.Equals && (t class.Reducing && (t class.Declares && (t class.Dots && (t class.Name && (t class.Number && (t class.Widest && (t class.Unknown && (t class.End)))))))))))))))))))))))))) (both (t class.If) (t class.Let && (t class.Turn && (t class.Protocol && (t class.Call && (t class.Store && (t class.Element && (t class.OpenBracket && (t class.CloseBracket && (t class.OpenParenthesis && (t class.CloseParenthesis && (t class.OpenBrace && (t class.CloseBrace && (t class.Comma && (t class.Tilde && (t class.Plus && (t class.Minus && (t class.Star && (t class.Comparison && (t class.Equals && (t class.Reducing && (t class.Declares && (t class.Dots && (t class.Name && (t class.Number && (t class.Widest && (t class.Unknown && (t class.End))))))))))))))))))))))))))) (both (t class.Loop) (t class.If && (t class.Let && (t class.Turn && (t class.Protocol && (t class.Call && (t class.Store && (t class.Element && (t class.OpenBracket && (t class.CloseBracket && (t class.OpenParenthesis && (t class.CloseParenthesis && (t class.OpenBrace && (t class.CloseBrace && (t class.Comma && (t class.Tilde && (t class.Plus && (t class.Minus && (t class.Star && (t class.Comparison && (t class.Equals && (t class.Reducing && (t class.Declares && (t class.Dots && (t class.Name && (t class.Number && (t class.Widest && (t class.Unknown && (t class.End)))))))))))))))))))))))))))) (both (t class.Shape) (t class.Loop && (t class.If && (t class.Let && (t class.Turn && (t class.Protocol && (t class.Call && (t class.Store && (t class.Element && (t class.OpenBracket && (t class.CloseBracket && (t class.OpenParenthesis && (t class.CloseParenthesis && (t class.OpenBrace && (t class.CloseBrace && (t class.Comma && (t class.Tilde && (t class.Plus && (t class.Minus && (t class.Star && (t class.Comparison && (t class.Equals && (t class.Reducing && (t class.Declares && (t class.Dots && (t class.Name && (t class.Number && (t class.Widest && (t class.Unknown && (t class.End))))))))))))))))))))))))))))) (both (t class.Fill) (t class.Shape && (t class.Loop && (t class.If && (t class.Let && (t class.Turn && (t class.Protocol && (t class.Call && (t class.Store && (t class.Element && (t class.OpenBracket && (t class.CloseBracket && (t class.OpenParenthesis && (t class.CloseParenthesis && (t class.OpenBrace && (t class.CloseBrace && (t class.Comma && (t class.Tilde && (t class.Plus && (t class.Minus && (t class.Star && (t class.Comparison && (t class.Equals && (t class.Reducing && (t class.Declares && (t class.Dots && (t class.Name && (t class.Number && (t class.Widest && (t class.Unknown && (t class.End)))))))))))))))))))))))))))))) (both (t class.OutOrTmp) (t class.Fill && (t class.Shape && (t class.Loop && (t class.If && (t class.Let && (t class.Turn && (t class.Protocol && (t class.Call && (t class.Store && (t class.Element && (t class.OpenBracket && (t class.CloseBracket && (t class.OpenParenthesis && (t class.CloseParenthesis && (t class.OpenBrace && (t class.CloseBrace && (t class.Comma && (t class.Tilde && (t class.Plus && (t class.Minus && (t class.Star && (t class.Comparison && (t class.Equals && (t class.Reducing && (t class.Declares && (t class.Dots && (t class.Name && (t class.Number && (t class.Widest && (t class.Unknown && (t class.End))))))))))))))))))))))))))))))) (both (t class.In) (t class.OutOrTmp && (t class.Fill && (t class.Shape && (t class.Loop && (t class.If && (t class.Let && (t class.Turn && (t class.Protocol && (t class.Call && (t class.Store && (t class.Element && (t class.OpenBracket && (t class.CloseBracket && (t class.OpenParenthesis && (t class.CloseParenthesis && (t class.OpenBrace && (t class.CloseBrace && (t class.Comma && (t class.Tilde && (t class.Plus && (t class.Minus && (t class.Star && (t class.Comparison && (t class.Equals && (t class.Reducing && (t class.Declares && (t class.Dots && (t class.Name && (t class.Number && (t class.Widest && (t class.Unknown && (t class.End)))))))))))))))))))))))))))))))) h).1).1).1).1).1).1).1).1).0
+at_each t h class.Call = (both (t class.Call) (t class.Store && (t class.Element && (t class.OpenBracket && (t class.CloseBracket && (t class.OpenParenthesis && (t class.CloseParenthesis && (t class.OpenBrace && (t class.CloseBrace && (t class.Comma && (t class.Tilde && (t class.Plus && (t class.Minus && (t class.Star && (t class.Comparison && (t class.Equals && (t class.Reducing && (t class.Declares && (t class.Dots && (t class.Name && (t class.Number && (t class.Widest && (t class.Unknown && (t class.End))))))))))))))))))))))) (both (t class.Protocol) (t class.Call && (t class.Store && (t class.Element && (t class.OpenBracket && (t class.CloseBracket && (t class.OpenParenthesis && (t class.CloseParenthesis && (t class.OpenBrace && (t class.CloseBrace && (t class.Comma && (t class.Tilde && (t class.Plus && (t class.Minus && (t class.Star && (t class.Comparison && (t class.Equals && (t class.Reducing && (t class.Declares && (t class.Dots && (t class.Name && (t class.Number && (t class.Widest && (t class.Unknown && (t class.End)))))))))))))))))))))))) (both (t class.Turn) (t class.Protocol && (t class.Call && (t class.Store && (t class.Element && (t class.OpenBracket && (t class.CloseBracket && (t class.OpenParenthesis && (t class.CloseParenthesis && (t class.OpenBrace && (t class.CloseBrace && (t class.Comma && (t class.Tilde && (t class.Plus && (t class.Minus && (t class.Star && (t class.Comparison && (t class.Equals && (t class.Reducing && (t class.Declares && (t class.Dots && (t class.Name && (t class.Number && (t class.Widest && (t class.Unknown && (t class.End))))))))))))))))))))))))) (both (t class.Let) (t class.Turn && (t class.Protocol && (t class.Call && (t class.Store && (t class.Element && (t class.OpenBracket && (t class.CloseBracket && (t class.OpenParenthesis && (t class.CloseParenthesis && (t class.OpenBrace && (t class.CloseBrace && (t class.Comma && (t class.Tilde && (t class.Plus && (t class.Minus && (t class.Star && (t class.Comparison && (t class.Equals && (t class.Reducing && (t class.Declares && (t class.Dots && (t class.Name && (t class.Number && (t class.Widest && (t class.Unknown && (t class.End)))))))))))))))))))))))))) (both (t class.If) (t class.Let && (t class.Turn && (t class.Protocol && (t class.Call && (t class.Store && (t class.Element && (t class.OpenBracket && (t class.CloseBracket && (t class.OpenParenthesis && (t class.CloseParenthesis && (t class.OpenBrace && (t class.CloseBrace && (t class.Comma && (t class.Tilde && (t class.Plus && (t class.Minus && (t class.Star && (t class.Comparison && (t class.Equals && (t class.Reducing && (t class.Declares && (t class.Dots && (t class.Name && (t class.Number && (t class.Widest && (t class.Unknown && (t class.End))))))))))))))))))))))))))) (both (t class.Loop) (t class.If && (t class.Let && (t class.Turn && (t class.Protocol && (t class.Call && (t class.Store && (t class.Element && (t class.OpenBracket && (t class.CloseBracket && (t class.OpenParenthesis && (t class.CloseParenthesis && (t class.OpenBrace && (t class.CloseBrace && (t class.Comma && (t class.Tilde && (t class.Plus && (t class.Minus && (t class.Star && (t class.Comparison && (t class.Equals && (t class.Reducing && (t class.Declares && (t class.Dots && (t class.Name && (t class.Number && (t class.Widest && (t class.Unknown && (t class.End)))))))))))))))))))))))))))) (both (t class.Shape) (t class.Loop && (t class.If && (t class.Let && (t class.Turn && (t class.Protocol && (t class.Call && (t class.Store && (t class.Element && (t class.OpenBracket && (t class.CloseBracket && (t class.OpenParenthesis && (t class.CloseParenthesis && (t class.OpenBrace && (t class.CloseBrace && (t class.Comma && (t class.Tilde && (t class.Plus && (t class.Minus && (t class.Star && (t class.Comparison && (t class.Equals && (t class.Reducing && (t class.Declares && (t class.Dots && (t class.Name && (t class.Number && (t class.Widest && (t class.Unknown && (t class.End))))))))))))))))))))))))))))) (both (t class.Fill) (t class.Shape && (t class.Loop && (t class.If && (t class.Let && (t class.Turn && (t class.Protocol && (t class.Call && (t class.Store && (t class.Element && (t class.OpenBracket && (t class.CloseBracket && (t class.OpenParenthesis && (t class.CloseParenthesis && (t class.OpenBrace && (t class.CloseBrace && (t class.Comma && (t class.Tilde && (t class.Plus && (t class.Minus && (t class.Star && (t class.Comparison && (t class.Equals && (t class.Reducing && (t class.Declares && (t class.Dots && (t class.Name && (t class.Number && (t class.Widest && (t class.Unknown && (t class.End)))))))))))))))))))))))))))))) (both (t class.OutOrTmp) (t class.Fill && (t class.Shape && (t class.Loop && (t class.If && (t class.Let && (t class.Turn && (t class.Protocol && (t class.Call && (t class.Store && (t class.Element && (t class.OpenBracket && (t class.CloseBracket && (t class.OpenParenthesis && (t class.CloseParenthesis && (t class.OpenBrace && (t class.CloseBrace && (t class.Comma && (t class.Tilde && (t class.Plus && (t class.Minus && (t class.Star && (t class.Comparison && (t class.Equals && (t class.Reducing && (t class.Declares && (t class.Dots && (t class.Name && (t class.Number && (t class.Widest && (t class.Unknown && (t class.End))))))))))))))))))))))))))))))) (both (t class.In) (t class.OutOrTmp && (t class.Fill && (t class.Shape && (t class.Loop && (t class.If && (t class.Let && (t class.Turn && (t class.Protocol && (t class.Call && (t class.Store && (t class.Element && (t class.OpenBracket && (t class.CloseBracket && (t class.OpenParenthesis && (t class.CloseParenthesis && (t class.OpenBrace && (t class.CloseBrace && (t class.Comma && (t class.Tilde && (t class.Plus && (t class.Minus && (t class.Star && (t class.Comparison && (t class.Equals && (t class.Reducing && (t class.Declares && (t class.Dots && (t class.Name && (t class.Number && (t class.Widest && (t class.Unknown && (t class.End)))))))))))))))))))))))))))))))) h).1).1).1).1).1).1).1).1).1).0
+at_each t h class.Store = (both (t class.Store) (t class.Element && (t class.OpenBracket && (t class.CloseBracket && (t class.OpenParenthesis && (t class.CloseParenthesis && (t class.OpenBrace && (t class.CloseBrace && (t class.Comma && (t class.Tilde && (t class.Plus && (t class.Minus && (t class.Star && (t class.Comparison && (t class.Equals && (t class.Reducing && (t class.Declares && (t class.Dots && (t class.Name && (t class.Number && (t class.Widest && (t class.Unknown && (t class.End)))))))))))))))))))))) (both (t class.Call) (t class.Store && (t class.Element && (t class.OpenBracket && (t class.CloseBracket && (t class.OpenParenthesis && (t class.CloseParenthesis && (t class.OpenBrace && (t class.CloseBrace && (t class.Comma && (t class.Tilde && (t class.Plus && (t class.Minus && (t class.Star && (t class.Comparison && (t class.Equals && (t class.Reducing && (t class.Declares && (t class.Dots && (t class.Name && (t class.Number && (t class.Widest && (t class.Unknown && (t class.End))))))))))))))))))))))) (both (t class.Protocol) (t class.Call && (t class.Store && (t class.Element && (t class.OpenBracket && (t class.CloseBracket && (t class.OpenParenthesis && (t class.CloseParenthesis && (t class.OpenBrace && (t class.CloseBrace && (t class.Comma && (t class.Tilde && (t class.Plus && (t class.Minus && (t class.Star && (t class.Comparison && (t class.Equals && (t class.Reducing && (t class.Declares && (t class.Dots && (t class.Name && (t class.Number && (t class.Widest && (t class.Unknown && (t class.End)))))))))))))))))))))))) (both (t class.Turn) (t class.Protocol && (t class.Call && (t class.Store && (t class.Element && (t class.OpenBracket && (t class.CloseBracket && (t class.OpenParenthesis && (t class.CloseParenthesis && (t class.OpenBrace && (t class.CloseBrace && (t class.Comma && (t class.Tilde && (t class.Plus && (t class.Minus && (t class.Star && (t class.Comparison && (t class.Equals && (t class.Reducing && (t class.Declares && (t class.Dots && (t class.Name && (t class.Number && (t class.Widest && (t class.Unknown && (t class.End))))))))))))))))))))))))) (both (t class.Let) (t class.Turn && (t class.Protocol && (t class.Call && (t class.Store && (t class.Element && (t class.OpenBracket && (t class.CloseBracket && (t class.OpenParenthesis && (t class.CloseParenthesis && (t class.OpenBrace && (t class.CloseBrace && (t class.Comma && (t class.Tilde && (t class.Plus && (t class.Minus && (t class.Star && (t class.Comparison && (t class.Equals && (t class.Reducing && (t class.Declares && (t class.Dots && (t class.Name && (t class.Number && (t class.Widest && (t class.Unknown && (t class.End)))))))))))))))))))))))))) (both (t class.If) (t class.Let && (t class.Turn && (t class.Protocol && (t class.Call && (t class.Store && (t class.Element && (t class.OpenBracket && (t class.CloseBracket && (t class.OpenParenthesis && (t class.CloseParenthesis && (t class.OpenBrace && (t class.CloseBrace && (t class.Comma && (t class.Tilde && (t class.Plus && (t class.Minus && (t class.Star && (t class.Comparison && (t class.Equals && (t class.Reducing && (t class.Declares && (t class.Dots && (t class.Name && (t class.Number && (t class.Widest && (t class.Unknown && (t class.End))))))))))))))))))))))))))) (both (t class.Loop) (t class.If && (t class.Let && (t class.Turn && (t class.Protocol && (t class.Call && (t class.Store && (t class.Element && (t class.OpenBracket && (t class.CloseBracket && (t class.OpenParenthesis && (t class.CloseParenthesis && (t class.OpenBrace && (t class.CloseBrace && (t class.Comma && (t class.Tilde && (t class.Plus && (t class.Minus && (t class.Star && (t class.Comparison && (t class.Equals && (t class.Reducing && (t class.Declares && (t class.Dots && (t class.Name && (t class.Number && (t class.Widest && (t class.Unknown && (t class.End)))))))))))))))))))))))))))) (both (t class.Shape) (t class.Loop && (t class.If && (t class.Let && (t class.Turn && (t class.Protocol && (t class.Call && (t class.Store && (t class.Element && (t class.OpenBracket && (t class.CloseBracket && (t class.OpenParenthesis && (t class.CloseParenthesis && (t class.OpenBrace && (t class.CloseBrace && (t class.Comma && (t class.Tilde && (t class.Plus && (t class.Minus && (t class.Star && (t class.Comparison && (t class.Equals && (t class.Reducing && (t class.Declares && (t class.Dots && (t class.Name && (t class.Number && (t class.Widest && (t class.Unknown && (t class.End))))))))))))))))))))))))))))) (both (t class.Fill) (t class.Shape && (t class.Loop && (t class.If && (t class.Let && (t class.Turn && (t class.Protocol && (t class.Call && (t class.Store && (t class.Element && (t class.OpenBracket && (t class.CloseBracket && (t class.OpenParenthesis && (t class.CloseParenthesis && (t class.OpenBrace && (t class.CloseBrace && (t class.Comma && (t class.Tilde && (t class.Plus && (t class.Minus && (t class.Star && (t class.Comparison && (t class.Equals && (t class.Reducing && (t class.Declares && (t class.Dots && (t class.Name && (t class.Number && (t class.Widest && (t class.Unknown && (t class.End)))))))))))))))))))))))))))))) (both (t class.OutOrTmp) (t class.Fill && (t class.Shape && (t class.Loop && (t class.If && (t class.Let && (t class.Turn && (t class.Protocol && (t class.Call && (t class.Store && (t class.Element && (t class.OpenBracket && (t class.CloseBracket && (t class.OpenParenthesis && (t class.CloseParenthesis && (t class.OpenBrace && (t class.CloseBrace && (t class.Comma && (t class.Tilde && (t class.Plus && (t class.Minus && (t class.Star && (t class.Comparison && (t class.Equals && (t class.Reducing && (t class.Declares && (t class.Dots && (t class.Name && (t class.Number && (t class.Widest && (t class.Unknown && (t class.End))))))))))))))))))))))))))))))) (both (t class.In) (t class.OutOrTmp && (t class.Fill && (t class.Shape && (t class.Loop && (t class.If && (t class.Let && (t class.Turn && (t class.Protocol && (t class.Call && (t class.Store && (t class.Element && (t class.OpenBracket && (t class.CloseBracket && (t class.OpenParenthesis && (t class.CloseParenthesis && (t class.OpenBrace && (t class.CloseBrace && (t class.Comma && (t class.Tilde && (t class.Plus && (t class.Minus && (t class.Star && (t class.Comparison && (t class.Equals && (t class.Reducing && (t class.Declares && (t class.Dots && (t class.Name && (t class.Number && (t class.Widest && (t class.Unknown && (t class.End)))))))))))))))))))))))))))))))) h).1).1).1).1).1).1).1).1).1).1).0
+at_each t h class.Element = (both (t class.Element) (t class.OpenBracket && (t class.CloseBracket && (t class.OpenParenthesis && (t class.CloseParenthesis && (t class.OpenBrace && (t class.CloseBrace && (t class.Comma && (t class.Tilde && (t class.Plus && (t class.Minus && (t class.Star && (t class.Comparison && (t class.Equals && (t class.Reducing && (t class.Declares && (t class.Dots && (t class.Name && (t class.Number && (t class.Widest && (t class.Unknown && (t class.End))))))))))))))))))))) (both (t class.Store) (t class.Element && (t class.OpenBracket && (t class.CloseBracket && (t class.OpenParenthesis && (t class.CloseParenthesis && (t class.OpenBrace && (t class.CloseBrace && (t class.Comma && (t class.Tilde && (t class.Plus && (t class.Minus && (t class.Star && (t class.Comparison && (t class.Equals && (t class.Reducing && (t class.Declares && (t class.Dots && (t class.Name && (t class.Number && (t class.Widest && (t class.Unknown && (t class.End)))))))))))))))))))))) (both (t class.Call) (t class.Store && (t class.Element && (t class.OpenBracket && (t class.CloseBracket && (t class.OpenParenthesis && (t class.CloseParenthesis && (t class.OpenBrace && (t class.CloseBrace && (t class.Comma && (t class.Tilde && (t class.Plus && (t class.Minus && (t class.Star && (t class.Comparison && (t class.Equals && (t class.Reducing && (t class.Declares && (t class.Dots && (t class.Name && (t class.Number && (t class.Widest && (t class.Unknown && (t class.End))))))))))))))))))))))) (both (t class.Protocol) (t class.Call && (t class.Store && (t class.Element && (t class.OpenBracket && (t class.CloseBracket && (t class.OpenParenthesis && (t class.CloseParenthesis && (t class.OpenBrace && (t class.CloseBrace && (t class.Comma && (t class.Tilde && (t class.Plus && (t class.Minus && (t class.Star && (t class.Comparison && (t class.Equals && (t class.Reducing && (t class.Declares && (t class.Dots && (t class.Name && (t class.Number && (t class.Widest && (t class.Unknown && (t class.End)))))))))))))))))))))))) (both (t class.Turn) (t class.Protocol && (t class.Call && (t class.Store && (t class.Element && (t class.OpenBracket && (t class.CloseBracket && (t class.OpenParenthesis && (t class.CloseParenthesis && (t class.OpenBrace && (t class.CloseBrace && (t class.Comma && (t class.Tilde && (t class.Plus && (t class.Minus && (t class.Star && (t class.Comparison && (t class.Equals && (t class.Reducing && (t class.Declares && (t class.Dots && (t class.Name && (t class.Number && (t class.Widest && (t class.Unknown && (t class.End))))))))))))))))))))))))) (both (t class.Let) (t class.Turn && (t class.Protocol && (t class.Call && (t class.Store && (t class.Element && (t class.OpenBracket && (t class.CloseBracket && (t class.OpenParenthesis && (t class.CloseParenthesis && (t class.OpenBrace && (t class.CloseBrace && (t class.Comma && (t class.Tilde && (t class.Plus && (t class.Minus && (t class.Star && (t class.Comparison && (t class.Equals && (t class.Reducing && (t class.Declares && (t class.Dots && (t class.Name && (t class.Number && (t class.Widest && (t class.Unknown && (t class.End)))))))))))))))))))))))))) (both (t class.If) (t class.Let && (t class.Turn && (t class.Protocol && (t class.Call && (t class.Store && (t class.Element && (t class.OpenBracket && (t class.CloseBracket && (t class.OpenParenthesis && (t class.CloseParenthesis && (t class.OpenBrace && (t class.CloseBrace && (t class.Comma && (t class.Tilde && (t class.Plus && (t class.Minus && (t class.Star && (t class.Comparison && (t class.Equals && (t class.Reducing && (t class.Declares && (t class.Dots && (t class.Name && (t class.Number && (t class.Widest && (t class.Unknown && (t class.End))))))))))))))))))))))))))) (both (t class.Loop) (t class.If && (t class.Let && (t class.Turn && (t class.Protocol && (t class.Call && (t class.Store && (t class.Element && (t class.OpenBracket && (t class.CloseBracket && (t class.OpenParenthesis && (t class.CloseParenthesis && (t class.OpenBrace && (t class.CloseBrace && (t class.Comma && (t class.Tilde && (t class.Plus && (t class.Minus && (t class.Star && (t class.Comparison && (t class.Equals && (t class.Reducing && (t class.Declares && (t class.Dots && (t class.Name && (t class.Number && (t class.Widest && (t class.Unknown && (t class.End)))))))))))))))))))))))))))) (both (t class.Shape) (t class.Loop && (t class.If && (t class.Let && (t class.Turn && (t class.Protocol && (t class.Call && (t class.Store && (t class.Element && (t class.OpenBracket && (t class.CloseBracket && (t class.OpenParenthesis && (t class.CloseParenthesis && (t class.OpenBrace && (t class.CloseBrace && (t class.Comma && (t class.Tilde && (t class.Plus && (t class.Minus && (t class.Star && (t class.Comparison && (t class.Equals && (t class.Reducing && (t class.Declares && (t class.Dots && (t class.Name && (t class.Number && (t class.Widest && (t class.Unknown && (t class.End))))))))))))))))))))))))))))) (both (t class.Fill) (t class.Shape && (t class.Loop && (t class.If && (t class.Let && (t class.Turn && (t class.Protocol && (t class.Call && (t class.Store && (t class.Element && (t class.OpenBracket && (t class.CloseBracket && (t class.OpenParenthesis && (t class.CloseParenthesis && (t class.OpenBrace && (t class.CloseBrace && (t class.Comma && (t class.Tilde && (t class.Plus && (t class.Minus && (t class.Star && (t class.Comparison && (t class.Equals && (t class.Reducing && (t class.Declares && (t class.Dots && (t class.Name && (t class.Number && (t class.Widest && (t class.Unknown && (t class.End)))))))))))))))))))))))))))))) (both (t class.OutOrTmp) (t class.Fill && (t class.Shape && (t class.Loop && (t class.If && (t class.Let && (t class.Turn && (t class.Protocol && (t class.Call && (t class.Store && (t class.Element && (t class.OpenBracket && (t class.CloseBracket && (t class.OpenParenthesis && (t class.CloseParenthesis && (t class.OpenBrace && (t class.CloseBrace && (t class.Comma && (t class.Tilde && (t class.Plus && (t class.Minus && (t class.Star && (t class.Comparison && (t class.Equals && (t class.Reducing && (t class.Declares && (t class.Dots && (t class.Name && (t class.Number && (t class.Widest && (t class.Unknown && (t class.End))))))))))))))))))))))))))))))) (both (t class.In) (t class.OutOrTmp && (t class.Fill && (t class.Shape && (t class.Loop && (t class.If && (t class.Let && (t class.Turn && (t class.Protocol && (t class.Call && (t class.Store && (t class.Element && (t class.OpenBracket && (t class.CloseBracket && (t class.OpenParenthesis && (t class.CloseParenthesis && (t class.OpenBrace && (t class.CloseBrace && (t class.Comma && (t class.Tilde && (t class.Plus && (t class.Minus && (t class.Star && (t class.Comparison && (t class.Equals && (t class.Reducing && (t class.Declares && (t class.Dots && (t class.Name && (t class.Number && (t class.Widest && (t class.Unknown && (t class.End)))))))))))))))))))))))))))))))) h).1).1).1).1).1).1).1).1).1).1).1).0
+at_each t h class.OpenBracket = (both (t class.OpenBracket) (t class.CloseBracket && (t class.OpenParenthesis && (t class.CloseParenthesis && (t class.OpenBrace && (t class.CloseBrace && (t class.Comma && (t class.Tilde && (t class.Plus && (t class.Minus && (t class.Star && (t class.Comparison && (t class.Equals && (t class.Reducing && (t class.Declares && (t class.Dots && (t class.Name && (t class.Number && (t class.Widest && (t class.Unknown && (t class.End)))))))))))))))))))) (both (t class.Element) (t class.OpenBracket && (t class.CloseBracket && (t class.OpenParenthesis && (t class.CloseParenthesis && (t class.OpenBrace && (t class.CloseBrace && (t class.Comma && (t class.Tilde && (t class.Plus && (t class.Minus && (t class.Star && (t class.Comparison && (t class.Equals && (t class.Reducing && (t class.Declares && (t class.Dots && (t class.Name && (t class.Number && (t class.Widest && (t class.Unknown && (t class.End))))))))))))))))))))) (both (t class.Store) (t class.Element && (t class.OpenBracket && (t class.CloseBracket && (t class.OpenParenthesis && (t class.CloseParenthesis && (t class.OpenBrace && (t class.CloseBrace && (t class.Comma && (t class.Tilde && (t class.Plus && (t class.Minus && (t class.Star && (t class.Comparison && (t class.Equals && (t class.Reducing && (t class.Declares && (t class.Dots && (t class.Name && (t class.Number && (t class.Widest && (t class.Unknown && (t class.End)))))))))))))))))))))) (both (t class.Call) (t class.Store && (t class.Element && (t class.OpenBracket && (t class.CloseBracket && (t class.OpenParenthesis && (t class.CloseParenthesis && (t class.OpenBrace && (t class.CloseBrace && (t class.Comma && (t class.Tilde && (t class.Plus && (t class.Minus && (t class.Star && (t class.Comparison && (t class.Equals && (t class.Reducing && (t class.Declares && (t class.Dots && (t class.Name && (t class.Number && (t class.Widest && (t class.Unknown && (t class.End))))))))))))))))))))))) (both (t class.Protocol) (t class.Call && (t class.Store && (t class.Element && (t class.OpenBracket && (t class.CloseBracket && (t class.OpenParenthesis && (t class.CloseParenthesis && (t class.OpenBrace && (t class.CloseBrace && (t class.Comma && (t class.Tilde && (t class.Plus && (t class.Minus && (t class.Star && (t class.Comparison && (t class.Equals && (t class.Reducing && (t class.Declares && (t class.Dots && (t class.Name && (t class.Number && (t class.Widest && (t class.Unknown && (t class.End)))))))))))))))))))))))) (both (t class.Turn) (t class.Protocol && (t class.Call && (t class.Store && (t class.Element && (t class.OpenBracket && (t class.CloseBracket && (t class.OpenParenthesis && (t class.CloseParenthesis && (t class.OpenBrace && (t class.CloseBrace && (t class.Comma && (t class.Tilde && (t class.Plus && (t class.Minus && (t class.Star && (t class.Comparison && (t class.Equals && (t class.Reducing && (t class.Declares && (t class.Dots && (t class.Name && (t class.Number && (t class.Widest && (t class.Unknown && (t class.End))))))))))))))))))))))))) (both (t class.Let) (t class.Turn && (t class.Protocol && (t class.Call && (t class.Store && (t class.Element && (t class.OpenBracket && (t class.CloseBracket && (t class.OpenParenthesis && (t class.CloseParenthesis && (t class.OpenBrace && (t class.CloseBrace && (t class.Comma && (t class.Tilde && (t class.Plus && (t class.Minus && (t class.Star && (t class.Comparison && (t class.Equals && (t class.Reducing && (t class.Declares && (t class.Dots && (t class.Name && (t class.Number && (t class.Widest && (t class.Unknown && (t class.End)))))))))))))))))))))))))) (both (t class.If) (t class.Let && (t class.Turn && (t class.Protocol && (t class.Call && (t class.Store && (t class.Element && (t class.OpenBracket && (t class.CloseBracket && (t class.OpenParenthesis && (t class.CloseParenthesis && (t class.OpenBrace && (t class.CloseBrace && (t class.Comma && (t class.Tilde && (t class.Plus && (t class.Minus && (t class.Star && (t class.Comparison && (t class.Equals && (t class.Reducing && (t class.Declares && (t class.Dots && (t class.Name && (t class.Number && (t class.Widest && (t class.Unknown && (t class.End))))))))))))))))))))))))))) (both (t class.Loop) (t class.If && (t class.Let && (t class.Turn && (t class.Protocol && (t class.Call && (t class.Store && (t class.Element && (t class.OpenBracket && (t class.CloseBracket && (t class.OpenParenthesis && (t class.CloseParenthesis && (t class.OpenBrace && (t class.CloseBrace && (t class.Comma && (t class.Tilde && (t class.Plus && (t class.Minus && (t class.Star && (t class.Comparison && (t class.Equals && (t class.Reducing && (t class.Declares && (t class.Dots && (t class.Name && (t class.Number && (t class.Widest && (t class.Unknown && (t class.End)))))))))))))))))))))))))))) (both (t class.Shape) (t class.Loop && (t class.If && (t class.Let && (t class.Turn && (t class.Protocol && (t class.Call && (t class.Store && (t class.Element && (t class.OpenBracket && (t class.CloseBracket && (t class.OpenParenthesis && (t class.CloseParenthesis && (t class.OpenBrace && (t class.CloseBrace && (t class.Comma && (t class.Tilde && (t class.Plus && (t class.Minus && (t class.Star && (t class.Comparison && (t class.Equals && (t class.Reducing && (t class.Declares && (t class.Dots && (t class.Name && (t class.Number && (t class.Widest && (t class.Unknown && (t class.End))))))))))))))))))))))))))))) (both (t class.Fill) (t class.Shape && (t class.Loop && (t class.If && (t class.Let && (t class.Turn && (t class.Protocol && (t class.Call && (t class.Store && (t class.Element && (t class.OpenBracket && (t class.CloseBracket && (t class.OpenParenthesis && (t class.CloseParenthesis && (t class.OpenBrace && (t class.CloseBrace && (t class.Comma && (t class.Tilde && (t class.Plus && (t class.Minus && (t class.Star && (t class.Comparison && (t class.Equals && (t class.Reducing && (t class.Declares && (t class.Dots && (t class.Name && (t class.Number && (t class.Widest && (t class.Unknown && (t class.End)))))))))))))))))))))))))))))) (both (t class.OutOrTmp) (t class.Fill && (t class.Shape && (t class.Loop && (t class.If && (t class.Let && (t class.Turn && (t class.Protocol && (t class.Call && (t class.Store && (t class.Element && (t class.OpenBracket && (t class.CloseBracket && (t class.OpenParenthesis && (t class.CloseParenthesis && (t class.OpenBrace && (t class.CloseBrace && (t class.Comma && (t class.Tilde && (t class.Plus && (t class.Minus && (t class.Star && (t class.Comparison && (t class.Equals && (t class.Reducing && (t class.Declares && (t class.Dots && (t class.Name && (t class.Number && (t class.Widest && (t class.Unknown && (t class.End))))))))))))))))))))))))))))))) (both (t class.In) (t class.OutOrTmp && (t class.Fill && (t class.Shape && (t class.Loop && (t class.If && (t class.Let && (t class.Turn && (t class.Protocol && (t class.Call && (t class.Store && (t class.Element && (t class.OpenBracket && (t class.CloseBracket && (t class.OpenParenthesis && (t class.CloseParenthesis && (t class.OpenBrace && (t class.CloseBrace && (t class.Comma && (t class.Tilde && (t class.Plus && (t class.Minus && (t class.Star && (t class.Comparison && (t class.Equals && (t class.Reducing && (t class.Declares && (t class.Dots && (t class.Name && (t class.Number && (t class.Widest && (t class.Unknown && (t class.End)))))))))))))))))))))))))))))))) h).1).1).1).1).1).1).1).1).1).1).1).1).0
+at_each t h class.CloseBracket = (both (t class.CloseBracket) (t class.OpenParenthesis && (t class.CloseParenthesis && (t class.OpenBrace && (t class.CloseBrace && (t class.Comma && (t class.Tilde && (t class.Plus && (t class.Minus && (t class.Star && (t class.Comparison && (t class.Equals && (t class.Reducing && (t class.Declares && (t class.Dots && (t class.Name && (t class.Number && (t class.Widest && (t class.Unknown && (t class.End))))))))))))))))))) (both (t class.OpenBracket) (t class.CloseBracket && (t class.OpenParenthesis && (t class.CloseParenthesis && (t class.OpenBrace && (t class.CloseBrace && (t class.Comma && (t class.Tilde && (t class.Plus && (t class.Minus && (t class.Star && (t class.Comparison && (t class.Equals && (t class.Reducing && (t class.Declares && (t class.Dots && (t class.Name && (t class.Number && (t class.Widest && (t class.Unknown && (t class.End)))))))))))))))))))) (both (t class.Element) (t class.OpenBracket && (t class.CloseBracket && (t class.OpenParenthesis && (t class.CloseParenthesis && (t class.OpenBrace && (t class.CloseBrace && (t class.Comma && (t class.Tilde && (t class.Plus && (t class.Minus && (t class.Star && (t class.Comparison && (t class.Equals && (t class.Reducing && (t class.Declares && (t class.Dots && (t class.Name && (t class.Number && (t class.Widest && (t class.Unknown && (t class.End))))))))))))))))))))) (both (t class.Store) (t class.Element && (t class.OpenBracket && (t class.CloseBracket && (t class.OpenParenthesis && (t class.CloseParenthesis && (t class.OpenBrace && (t class.CloseBrace && (t class.Comma && (t class.Tilde && (t class.Plus && (t class.Minus && (t class.Star && (t class.Comparison && (t class.Equals && (t class.Reducing && (t class.Declares && (t class.Dots && (t class.Name && (t class.Number && (t class.Widest && (t class.Unknown && (t class.End)))))))))))))))))))))) (both (t class.Call) (t class.Store && (t class.Element && (t class.OpenBracket && (t class.CloseBracket && (t class.OpenParenthesis && (t class.CloseParenthesis && (t class.OpenBrace && (t class.CloseBrace && (t class.Comma && (t class.Tilde && (t class.Plus && (t class.Minus && (t class.Star && (t class.Comparison && (t class.Equals && (t class.Reducing && (t class.Declares && (t class.Dots && (t class.Name && (t class.Number && (t class.Widest && (t class.Unknown && (t class.End))))))))))))))))))))))) (both (t class.Protocol) (t class.Call && (t class.Store && (t class.Element && (t class.OpenBracket && (t class.CloseBracket && (t class.OpenParenthesis && (t class.CloseParenthesis && (t class.OpenBrace && (t class.CloseBrace && (t class.Comma && (t class.Tilde && (t class.Plus && (t class.Minus && (t class.Star && (t class.Comparison && (t class.Equals && (t class.Reducing && (t class.Declares && (t class.Dots && (t class.Name && (t class.Number && (t class.Widest && (t class.Unknown && (t class.End)))))))))))))))))))))))) (both (t class.Turn) (t class.Protocol && (t class.Call && (t class.Store && (t class.Element && (t class.OpenBracket && (t class.CloseBracket && (t class.OpenParenthesis && (t class.CloseParenthesis && (t class.OpenBrace && (t class.CloseBrace && (t class.Comma && (t class.Tilde && (t class.Plus && (t class.Minus && (t class.Star && (t class.Comparison && (t class.Equals && (t class.Reducing && (t class.Declares && (t class.Dots && (t class.Name && (t class.Number && (t class.Widest && (t class.Unknown && (t class.End))))))))))))))))))))))))) (both (t class.Let) (t class.Turn && (t class.Protocol && (t class.Call && (t class.Store && (t class.Element && (t class.OpenBracket && (t class.CloseBracket && (t class.OpenParenthesis && (t class.CloseParenthesis && (t class.OpenBrace && (t class.CloseBrace && (t class.Comma && (t class.Tilde && (t class.Plus && (t class.Minus && (t class.Star && (t class.Comparison && (t class.Equals && (t class.Reducing && (t class.Declares && (t class.Dots && (t class.Name && (t class.Number && (t class.Widest && (t class.Unknown && (t class.End)))))))))))))))))))))))))) (both (t class.If) (t class.Let && (t class.Turn && (t class.Protocol && (t class.Call && (t class.Store && (t class.Element && (t class.OpenBracket && (t class.CloseBracket && (t class.OpenParenthesis && (t class.CloseParenthesis && (t class.OpenBrace && (t class.CloseBrace && (t class.Comma && (t class.Tilde && (t class.Plus && (t class.Minus && (t class.Star && (t class.Comparison && (t class.Equals && (t class.Reducing && (t class.Declares && (t class.Dots && (t class.Name && (t class.Number && (t class.Widest && (t class.Unknown && (t class.End))))))))))))))))))))))))))) (both (t class.Loop) (t class.If && (t class.Let && (t class.Turn && (t class.Protocol && (t class.Call && (t class.Store && (t class.Element && (t class.OpenBracket && (t class.CloseBracket && (t class.OpenParenthesis && (t class.CloseParenthesis && (t class.OpenBrace && (t class.CloseBrace && (t class.Comma && (t class.Tilde && (t class.Plus && (t class.Minus && (t class.Star && (t class.Comparison && (t class.Equals && (t class.Reducing && (t class.Declares && (t class.Dots && (t class.Name && (t class.Number && (t class.Widest && (t class.Unknown && (t class.End)))))))))))))))))))))))))))) (both (t class.Shape) (t class.Loop && (t class.If && (t class.Let && (t class.Turn && (t class.Protocol && (t class.Call && (t class.Store && (t class.Element && (t class.OpenBracket && (t class.CloseBracket && (t class.OpenParenthesis && (t class.CloseParenthesis && (t class.OpenBrace && (t class.CloseBrace && (t class.Comma && (t class.Tilde && (t class.Plus && (t class.Minus && (t class.Star && (t class.Comparison && (t class.Equals && (t class.Reducing && (t class.Declares && (t class.Dots && (t class.Name && (t class.Number && (t class.Widest && (t class.Unknown && (t class.End))))))))))))))))))))))))))))) (both (t class.Fill) (t class.Shape && (t class.Loop && (t class.If && (t class.Let && (t class.Turn && (t class.Protocol && (t class.Call && (t class.Store && (t class.Element && (t class.OpenBracket && (t class.CloseBracket && (t class.OpenParenthesis && (t class.CloseParenthesis && (t class.OpenBrace && (t class.CloseBrace && (t class.Comma && (t class.Tilde && (t class.Plus && (t class.Minus && (t class.Star && (t class.Comparison && (t class.Equals && (t class.Reducing && (t class.Declares && (t class.Dots && (t class.Name && (t class.Number && (t class.Widest && (t class.Unknown && (t class.End)))))))))))))))))))))))))))))) (both (t class.OutOrTmp) (t class.Fill && (t class.Shape && (t class.Loop && (t class.If && (t class.Let && (t class.Turn && (t class.Protocol && (t class.Call && (t class.Store && (t class.Element && (t class.OpenBracket && (t class.CloseBracket && (t class.OpenParenthesis && (t class.CloseParenthesis && (t class.OpenBrace && (t class.CloseBrace && (t class.Comma && (t class.Tilde && (t class.Plus && (t class.Minus && (t class.Star && (t class.Comparison && (t class.Equals && (t class.Reducing && (t class.Declares && (t class.Dots && (t class.Name && (t class.Number && (t class.Widest && (t class.Unknown && (t class.End))))))))))))))))))))))))))))))) (both (t class.In) (t class.OutOrTmp && (t class.Fill && (t class.Shape && (t class.Loop && (t class.If && (t class.Let && (t class.Turn && (t class.Protocol && (t class.Call && (t class.Store && (t class.Element && (t class.OpenBracket && (t class.CloseBracket && (t class.OpenParenthesis && (t class.CloseParenthesis && (t class.OpenBrace && (t class.CloseBrace && (t class.Comma && (t class.Tilde && (t class.Plus && (t class.Minus && (t class.Star && (t class.Comparison && (t class.Equals && (t class.Reducing && (t class.Declares && (t class.Dots && (t class.Name && (t class.Number && (t class.Widest && (t class.Unknown && (t class.End)))))))))))))))))))))))))))))))) h).1).1).1).1).1).1).1).1).1).1).1).1).1).0
+at_each t h class.OpenParenthesis = (both (t class.OpenParenthesis) (t class.CloseParenthesis && (t class.OpenBrace && (t class.CloseBrace && (t class.Comma && (t class.Tilde && (t class.Plus && (t class.Minus && (t class.Star && (t class.Comparison && (t class.Equals && (t class.Reducing && (t class.Declares && (t class.Dots && (t class.Name && (t class.Number && (t class.Widest && (t class.Unknown && (t class.End)))))))))))))))))) (both (t class.CloseBracket) (t class.OpenParenthesis && (t class.CloseParenthesis && (t class.OpenBrace && (t class.CloseBrace && (t class.Comma && (t class.Tilde && (t class.Plus && (t class.Minus && (t class.Star && (t class.Comparison && (t class.Equals && (t class.Reducing && (t class.Declares && (t class.Dots && (t class.Name && (t class.Number && (t class.Widest && (t class.Unknown && (t class.End))))))))))))))))))) (both (t class.OpenBracket) (t class.CloseBracket && (t class.OpenParenthesis && (t class.CloseParenthesis && (t class.OpenBrace && (t class.CloseBrace && (t class.Comma && (t class.Tilde && (t class.Plus && (t class.Minus && (t class.Star && (t class.Comparison && (t class.Equals && (t class.Reducing && (t class.Declares && (t class.Dots && (t class.Name && (t class.Number && (t class.Widest && (t class.Unknown && (t class.End)))))))))))))))))))) (both (t class.Element) (t class.OpenBracket && (t class.CloseBracket && (t class.OpenParenthesis && (t class.CloseParenthesis && (t class.OpenBrace && (t class.CloseBrace && (t class.Comma && (t class.Tilde && (t class.Plus && (t class.Minus && (t class.Star && (t class.Comparison && (t class.Equals && (t class.Reducing && (t class.Declares && (t class.Dots && (t class.Name && (t class.Number && (t class.Widest && (t class.Unknown && (t class.End))))))))))))))))))))) (both (t class.Store) (t class.Element && (t class.OpenBracket && (t class.CloseBracket && (t class.OpenParenthesis && (t class.CloseParenthesis && (t class.OpenBrace && (t class.CloseBrace && (t class.Comma && (t class.Tilde && (t class.Plus && (t class.Minus && (t class.Star && (t class.Comparison && (t class.Equals && (t class.Reducing && (t class.Declares && (t class.Dots && (t class.Name && (t class.Number && (t class.Widest && (t class.Unknown && (t class.End)))))))))))))))))))))) (both (t class.Call) (t class.Store && (t class.Element && (t class.OpenBracket && (t class.CloseBracket && (t class.OpenParenthesis && (t class.CloseParenthesis && (t class.OpenBrace && (t class.CloseBrace && (t class.Comma && (t class.Tilde && (t class.Plus && (t class.Minus && (t class.Star && (t class.Comparison && (t class.Equals && (t class.Reducing && (t class.Declares && (t class.Dots && (t class.Name && (t class.Number && (t class.Widest && (t class.Unknown && (t class.End))))))))))))))))))))))) (both (t class.Protocol) (t class.Call && (t class.Store && (t class.Element && (t class.OpenBracket && (t class.CloseBracket && (t class.OpenParenthesis && (t class.CloseParenthesis && (t class.OpenBrace && (t class.CloseBrace && (t class.Comma && (t class.Tilde && (t class.Plus && (t class.Minus && (t class.Star && (t class.Comparison && (t class.Equals && (t class.Reducing && (t class.Declares && (t class.Dots && (t class.Name && (t class.Number && (t class.Widest && (t class.Unknown && (t class.End)))))))))))))))))))))))) (both (t class.Turn) (t class.Protocol && (t class.Call && (t class.Store && (t class.Element && (t class.OpenBracket && (t class.CloseBracket && (t class.OpenParenthesis && (t class.CloseParenthesis && (t class.OpenBrace && (t class.CloseBrace && (t class.Comma && (t class.Tilde && (t class.Plus && (t class.Minus && (t class.Star && (t class.Comparison && (t class.Equals && (t class.Reducing && (t class.Declares && (t class.Dots && (t class.Name && (t class.Number && (t class.Widest && (t class.Unknown && (t class.End))))))))))))))))))))))))) (both (t class.Let) (t class.Turn && (t class.Protocol && (t class.Call && (t class.Store && (t class.Element && (t class.OpenBracket && (t class.CloseBracket && (t class.OpenParenthesis && (t class.CloseParenthesis && (t class.OpenBrace && (t class.CloseBrace && (t class.Comma && (t class.Tilde && (t class.Plus && (t class.Minus && (t class.Star && (t class.Comparison && (t class.Equals && (t class.Reducing && (t class.Declares && (t class.Dots && (t class.Name && (t class.Number && (t class.Widest && (t class.Unknown && (t class.End)))))))))))))))))))))))))) (both (t class.If) (t class.Let && (t class.Turn && (t class.Protocol && (t class.Call && (t class.Store && (t class.Element && (t class.OpenBracket && (t class.CloseBracket && (t class.OpenParenthesis && (t class.CloseParenthesis && (t class.OpenBrace && (t class.CloseBrace && (t class.Comma && (t class.Tilde && (t class.Plus && (t class.Minus && (t class.Star && (t class.Comparison && (t class.Equals && (t class.Reducing && (t class.Declares && (t class.Dots && (t class.Name && (t class.Number && (t class.Widest && (t class.Unknown && (t class.End))))))))))))))))))))))))))) (both (t class.Loop) (t class.If && (t class.Let && (t class.Turn && (t class.Protocol && (t class.Call && (t class.Store && (t class.Element && (t class.OpenBracket && (t class.CloseBracket && (t class.OpenParenthesis && (t class.CloseParenthesis && (t class.OpenBrace && (t class.CloseBrace && (t class.Comma && (t class.Tilde && (t class.Plus && (t class.Minus && (t class.Star && (t class.Comparison && (t class.Equals && (t class.Reducing && (t class.Declares && (t class.Dots && (t class.Name && (t class.Number && (t class.Widest && (t class.Unknown && (t class.End)))))))))))))))))))))))))))) (both (t class.Shape) (t class.Loop && (t class.If && (t class.Let && (t class.Turn && (t class.Protocol && (t class.Call && (t class.Store && (t class.Element && (t class.OpenBracket && (t class.CloseBracket && (t class.OpenParenthesis && (t class.CloseParenthesis && (t class.OpenBrace && (t class.CloseBrace && (t class.Comma && (t class.Tilde && (t class.Plus && (t class.Minus && (t class.Star && (t class.Comparison && (t class.Equals && (t class.Reducing && (t class.Declares && (t class.Dots && (t class.Name && (t class.Number && (t class.Widest && (t class.Unknown && (t class.End))))))))))))))))))))))))))))) (both (t class.Fill) (t class.Shape && (t class.Loop && (t class.If && (t class.Let && (t class.Turn && (t class.Protocol && (t class.Call && (t class.Store && (t class.Element && (t class.OpenBracket && (t class.CloseBracket && (t class.OpenParenthesis && (t class.CloseParenthesis && (t class.OpenBrace && (t class.CloseBrace && (t class.Comma && (t class.Tilde && (t class.Plus && (t class.Minus && (t class.Star && (t class.Comparison && (t class.Equals && (t class.Reducing && (t class.Declares && (t class.Dots && (t class.Name && (t class.Number && (t class.Widest && (t class.Unknown && (t class.End)))))))))))))))))))))))))))))) (both (t class.OutOrTmp) (t class.Fill && (t class.Shape && (t class.Loop && (t class.If && (t class.Let && (t class.Turn && (t class.Protocol && (t class.Call && (t class.Store && (t class.Element && (t class.OpenBracket && (t class.CloseBracket && (t class.OpenParenthesis && (t class.CloseParenthesis && (t class.OpenBrace && (t class.CloseBrace && (t class.Comma && (t class.Tilde && (t class.Plus && (t class.Minus && (t class.Star && (t class.Comparison && (t class.Equals && (t class.Reducing && (t class.Declares && (t class.Dots && (t class.Name && (t class.Number && (t class.Widest && (t class.Unknown && (t class.End))))))))))))))))))))))))))))))) (both (t class.In) (t class.OutOrTmp && (t class.Fill && (t class.Shape && (t class.Loop && (t class.If && (t class.Let && (t class.Turn && (t class.Protocol && (t class.Call && (t class.Store && (t class.Element && (t class.OpenBracket && (t class.CloseBracket && (t class.OpenParenthesis && (t class.CloseParenthesis && (t class.OpenBrace && (t class.CloseBrace && (t class.Comma && (t class.Tilde && (t class.Plus && (t class.Minus && (t class.Star && (t class.Comparison && (t class.Equals && (t class.Reducing && (t class.Declares && (t class.Dots && (t class.Name && (t class.Number && (t class.Widest && (t class.Unknown && (t class.End)))))))))))))))))))))))))))))))) h).1).1).1).1).1).1).1).1).1).1).1).1).1).1).0
+at_each t h class.CloseParenthesis = (both (t class.CloseParenthesis) (t class.OpenBrace && (t class.CloseBrace && (t class.Comma && (t class.Tilde && (t class.Plus && (t class.Minus && (t class.Star && (t class.Comparison && (t class.Equals && (t class.Reducing && (t class.Declares && (t class.Dots && (t class.Name && (t class.Number && (t class.Widest && (t class.Unknown && (t class.End))))))))))))))))) (both (t class.OpenParenthesis) (t class.CloseParenthesis && (t class.OpenBrace && (t class.CloseBrace && (t class.Comma && (t class.Tilde && (t class.Plus && (t class.Minus && (t class.Star && (t class.Comparison && (t class.Equals && (t class.Reducing && (t class.Declares && (t class.Dots && (t class.Name && (t class.Number && (t class.Widest && (t class.Unknown && (t class.End)))))))))))))))))) (both (t class.CloseBracket) (t class.OpenParenthesis && (t class.CloseParenthesis && (t class.OpenBrace && (t class.CloseBrace && (t class.Comma && (t class.Tilde && (t class.Plus && (t class.Minus && (t class.Star && (t class.Comparison && (t class.Equals && (t class.Reducing && (t class.Declares && (t class.Dots && (t class.Name && (t class.Number && (t class.Widest && (t class.Unknown && (t class.End))))))))))))))))))) (both (t class.OpenBracket) (t class.CloseBracket && (t class.OpenParenthesis && (t class.CloseParenthesis && (t class.OpenBrace && (t class.CloseBrace && (t class.Comma && (t class.Tilde && (t class.Plus && (t class.Minus && (t class.Star && (t class.Comparison && (t class.Equals && (t class.Reducing && (t class.Declares && (t class.Dots && (t class.Name && (t class.Number && (t class.Widest && (t class.Unknown && (t class.End)))))))))))))))))))) (both (t class.Element) (t class.OpenBracket && (t class.CloseBracket && (t class.OpenParenthesis && (t class.CloseParenthesis && (t class.OpenBrace && (t class.CloseBrace && (t class.Comma && (t class.Tilde && (t class.Plus && (t class.Minus && (t class.Star && (t class.Comparison && (t class.Equals && (t class.Reducing && (t class.Declares && (t class.Dots && (t class.Name && (t class.Number && (t class.Widest && (t class.Unknown && (t class.End))))))))))))))))))))) (both (t class.Store) (t class.Element && (t class.OpenBracket && (t class.CloseBracket && (t class.OpenParenthesis && (t class.CloseParenthesis && (t class.OpenBrace && (t class.CloseBrace && (t class.Comma && (t class.Tilde && (t class.Plus && (t class.Minus && (t class.Star && (t class.Comparison && (t class.Equals && (t class.Reducing && (t class.Declares && (t class.Dots && (t class.Name && (t class.Number && (t class.Widest && (t class.Unknown && (t class.End)))))))))))))))))))))) (both (t class.Call) (t class.Store && (t class.Element && (t class.OpenBracket && (t class.CloseBracket && (t class.OpenParenthesis && (t class.CloseParenthesis && (t class.OpenBrace && (t class.CloseBrace && (t class.Comma && (t class.Tilde && (t class.Plus && (t class.Minus && (t class.Star && (t class.Comparison && (t class.Equals && (t class.Reducing && (t class.Declares && (t class.Dots && (t class.Name && (t class.Number && (t class.Widest && (t class.Unknown && (t class.End))))))))))))))))))))))) (both (t class.Protocol) (t class.Call && (t class.Store && (t class.Element && (t class.OpenBracket && (t class.CloseBracket && (t class.OpenParenthesis && (t class.CloseParenthesis && (t class.OpenBrace && (t class.CloseBrace && (t class.Comma && (t class.Tilde && (t class.Plus && (t class.Minus && (t class.Star && (t class.Comparison && (t class.Equals && (t class.Reducing && (t class.Declares && (t class.Dots && (t class.Name && (t class.Number && (t class.Widest && (t class.Unknown && (t class.End)))))))))))))))))))))))) (both (t class.Turn) (t class.Protocol && (t class.Call && (t class.Store && (t class.Element && (t class.OpenBracket && (t class.CloseBracket && (t class.OpenParenthesis && (t class.CloseParenthesis && (t class.OpenBrace && (t class.CloseBrace && (t class.Comma && (t class.Tilde && (t class.Plus && (t class.Minus && (t class.Star && (t class.Comparison && (t class.Equals && (t class.Reducing && (t class.Declares && (t class.Dots && (t class.Name && (t class.Number && (t class.Widest && (t class.Unknown && (t class.End))))))))))))))))))))))))) (both (t class.Let) (t class.Turn && (t class.Protocol && (t class.Call && (t class.Store && (t class.Element && (t class.OpenBracket && (t class.CloseBracket && (t class.OpenParenthesis && (t class.CloseParenthesis && (t class.OpenBrace && (t class.CloseBrace && (t class.Comma && (t class.Tilde && (t class.Plus && (t class.Minus && (t class.Star && (t class.Comparison && (t class.Equals && (t class.Reducing && (t class.Declares && (t class.Dots && (t class.Name && (t class.Number && (t class.Widest && (t class.Unknown && (t class.End)))))))))))))))))))))))))) (both (t class.If) (t class.Let && (t class.Turn && (t class.Protocol && (t class.Call && (t class.Store && (t class.Element && (t class.OpenBracket && (t class.CloseBracket && (t class.OpenParenthesis && (t class.CloseParenthesis && (t class.OpenBrace && (t class.CloseBrace && (t class.Comma && (t class.Tilde && (t class.Plus && (t class.Minus && (t class.Star && (t class.Comparison && (t class.Equals && (t class.Reducing && (t class.Declares && (t class.Dots && (t class.Name && (t class.Number && (t class.Widest && (t class.Unknown && (t class.End))))))))))))))))))))))))))) (both (t class.Loop) (t class.If && (t class.Let && (t class.Turn && (t class.Protocol && (t class.Call && (t class.Store && (t class.Element && (t class.OpenBracket && (t class.CloseBracket && (t class.OpenParenthesis && (t class.CloseParenthesis && (t class.OpenBrace && (t class.CloseBrace && (t class.Comma && (t class.Tilde && (t class.Plus && (t class.Minus && (t class.Star && (t class.Comparison && (t class.Equals && (t class.Reducing && (t class.Declares && (t class.Dots && (t class.Name && (t class.Number && (t class.Widest && (t class.Unknown && (t class.End)))))))))))))))))))))))))))) (both (t class.Shape) (t class.Loop && (t class.If && (t class.Let && (t class.Turn && (t class.Protocol && (t class.Call && (t class.Store && (t class.Element && (t class.OpenBracket && (t class.CloseBracket && (t class.OpenParenthesis && (t class.CloseParenthesis && (t class.OpenBrace && (t class.CloseBrace && (t class.Comma && (t class.Tilde && (t class.Plus && (t class.Minus && (t class.Star && (t class.Comparison && (t class.Equals && (t class.Reducing && (t class.Declares && (t class.Dots && (t class.Name && (t class.Number && (t class.Widest && (t class.Unknown && (t class.End))))))))))))))))))))))))))))) (both (t class.Fill) (t class.Shape && (t class.Loop && (t class.If && (t class.Let && (t class.Turn && (t class.Protocol && (t class.Call && (t class.Store && (t class.Element && (t class.OpenBracket && (t class.CloseBracket && (t class.OpenParenthesis && (t class.CloseParenthesis && (t class.OpenBrace && (t class.CloseBrace && (t class.Comma && (t class.Tilde && (t class.Plus && (t class.Minus && (t class.Star && (t class.Comparison && (t class.Equals && (t class.Reducing && (t class.Declares && (t class.Dots && (t class.Name && (t class.Number && (t class.Widest && (t class.Unknown && (t class.End)))))))))))))))))))))))))))))) (both (t class.OutOrTmp) (t class.Fill && (t class.Shape && (t class.Loop && (t class.If && (t class.Let && (t class.Turn && (t class.Protocol && (t class.Call && (t class.Store && (t class.Element && (t class.OpenBracket && (t class.CloseBracket && (t class.OpenParenthesis && (t class.CloseParenthesis && (t class.OpenBrace && (t class.CloseBrace && (t class.Comma && (t class.Tilde && (t class.Plus && (t class.Minus && (t class.Star && (t class.Comparison && (t class.Equals && (t class.Reducing && (t class.Declares && (t class.Dots && (t class.Name && (t class.Number && (t class.Widest && (t class.Unknown && (t class.End))))))))))))))))))))))))))))))) (both (t class.In) (t class.OutOrTmp && (t class.Fill && (t class.Shape && (t class.Loop && (t class.If && (t class.Let && (t class.Turn && (t class.Protocol && (t class.Call && (t class.Store && (t class.Element && (t class.OpenBracket && (t class.CloseBracket && (t class.OpenParenthesis && (t class.CloseParenthesis && (t class.OpenBrace && (t class.CloseBrace && (t class.Comma && (t class.Tilde && (t class.Plus && (t class.Minus && (t class.Star && (t class.Comparison && (t class.Equals && (t class.Reducing && (t class.Declares && (t class.Dots && (t class.Name && (t class.Number && (t class.Widest && (t class.Unknown && (t class.End)))))))))))))))))))))))))))))))) h).1).1).1).1).1).1).1).1).1).1).1).1).1).1).1).0
+at_each t h class.OpenBrace = (both (t class.OpenBrace) (t class.CloseBrace && (t class.Comma && (t class.Tilde && (t class.Plus && (t class.Minus && (t class.Star && (t class.Comparison && (t class.Equals && (t class.Reducing && (t class.Declares && (t class.Dots && (t class.Name && (t class.Number && (t class.Widest && (t class.Unknown && (t class.End)))))))))))))))) (both (t class.CloseParenthesis) (t class.OpenBrace && (t class.CloseBrace && (t class.Comma && (t class.Tilde && (t class.Plus && (t class.Minus && (t class.Star && (t class.Comparison && (t class.Equals && (t class.Reducing && (t class.Declares && (t class.Dots && (t class.Name && (t class.Number && (t class.Widest && (t class.Unknown && (t class.End))))))))))))))))) (both (t class.OpenParenthesis) (t class.CloseParenthesis && (t class.OpenBrace && (t class.CloseBrace && (t class.Comma && (t class.Tilde && (t class.Plus && (t class.Minus && (t class.Star && (t class.Comparison && (t class.Equals && (t class.Reducing && (t class.Declares && (t class.Dots && (t class.Name && (t class.Number && (t class.Widest && (t class.Unknown && (t class.End)))))))))))))))))) (both (t class.CloseBracket) (t class.OpenParenthesis && (t class.CloseParenthesis && (t class.OpenBrace && (t class.CloseBrace && (t class.Comma && (t class.Tilde && (t class.Plus && (t class.Minus && (t class.Star && (t class.Comparison && (t class.Equals && (t class.Reducing && (t class.Declares && (t class.Dots && (t class.Name && (t class.Number && (t class.Widest && (t class.Unknown && (t class.End))))))))))))))))))) (both (t class.OpenBracket) (t class.CloseBracket && (t class.OpenParenthesis && (t class.CloseParenthesis && (t class.OpenBrace && (t class.CloseBrace && (t class.Comma && (t class.Tilde && (t class.Plus && (t class.Minus && (t class.Star && (t class.Comparison && (t class.Equals && (t class.Reducing && (t class.Declares && (t class.Dots && (t class.Name && (t class.Number && (t class.Widest && (t class.Unknown && (t class.End)))))))))))))))))))) (both (t class.Element) (t class.OpenBracket && (t class.CloseBracket && (t class.OpenParenthesis && (t class.CloseParenthesis && (t class.OpenBrace && (t class.CloseBrace && (t class.Comma && (t class.Tilde && (t class.Plus && (t class.Minus && (t class.Star && (t class.Comparison && (t class.Equals && (t class.Reducing && (t class.Declares && (t class.Dots && (t class.Name && (t class.Number && (t class.Widest && (t class.Unknown && (t class.End))))))))))))))))))))) (both (t class.Store) (t class.Element && (t class.OpenBracket && (t class.CloseBracket && (t class.OpenParenthesis && (t class.CloseParenthesis && (t class.OpenBrace && (t class.CloseBrace && (t class.Comma && (t class.Tilde && (t class.Plus && (t class.Minus && (t class.Star && (t class.Comparison && (t class.Equals && (t class.Reducing && (t class.Declares && (t class.Dots && (t class.Name && (t class.Number && (t class.Widest && (t class.Unknown && (t class.End)))))))))))))))))))))) (both (t class.Call) (t class.Store && (t class.Element && (t class.OpenBracket && (t class.CloseBracket && (t class.OpenParenthesis && (t class.CloseParenthesis && (t class.OpenBrace && (t class.CloseBrace && (t class.Comma && (t class.Tilde && (t class.Plus && (t class.Minus && (t class.Star && (t class.Comparison && (t class.Equals && (t class.Reducing && (t class.Declares && (t class.Dots && (t class.Name && (t class.Number && (t class.Widest && (t class.Unknown && (t class.End))))))))))))))))))))))) (both (t class.Protocol) (t class.Call && (t class.Store && (t class.Element && (t class.OpenBracket && (t class.CloseBracket && (t class.OpenParenthesis && (t class.CloseParenthesis && (t class.OpenBrace && (t class.CloseBrace && (t class.Comma && (t class.Tilde && (t class.Plus && (t class.Minus && (t class.Star && (t class.Comparison && (t class.Equals && (t class.Reducing && (t class.Declares && (t class.Dots && (t class.Name && (t class.Number && (t class.Widest && (t class.Unknown && (t class.End)))))))))))))))))))))))) (both (t class.Turn) (t class.Protocol && (t class.Call && (t class.Store && (t class.Element && (t class.OpenBracket && (t class.CloseBracket && (t class.OpenParenthesis && (t class.CloseParenthesis && (t class.OpenBrace && (t class.CloseBrace && (t class.Comma && (t class.Tilde && (t class.Plus && (t class.Minus && (t class.Star && (t class.Comparison && (t class.Equals && (t class.Reducing && (t class.Declares && (t class.Dots && (t class.Name && (t class.Number && (t class.Widest && (t class.Unknown && (t class.End))))))))))))))))))))))))) (both (t class.Let) (t class.Turn && (t class.Protocol && (t class.Call && (t class.Store && (t class.Element && (t class.OpenBracket && (t class.CloseBracket && (t class.OpenParenthesis && (t class.CloseParenthesis && (t class.OpenBrace && (t class.CloseBrace && (t class.Comma && (t class.Tilde && (t class.Plus && (t class.Minus && (t class.Star && (t class.Comparison && (t class.Equals && (t class.Reducing && (t class.Declares && (t class.Dots && (t class.Name && (t class.Number && (t class.Widest && (t class.Unknown && (t class.End)))))))))))))))))))))))))) (both (t class.If) (t class.Let && (t class.Turn && (t class.Protocol && (t class.Call && (t class.Store && (t class.Element && (t class.OpenBracket && (t class.CloseBracket && (t class.OpenParenthesis && (t class.CloseParenthesis && (t class.OpenBrace && (t class.CloseBrace && (t class.Comma && (t class.Tilde && (t class.Plus && (t class.Minus && (t class.Star && (t class.Comparison && (t class.Equals && (t class.Reducing && (t class.Declares && (t class.Dots && (t class.Name && (t class.Number && (t class.Widest && (t class.Unknown && (t class.End))))))))))))))))))))))))))) (both (t class.Loop) (t class.If && (t class.Let && (t class.Turn && (t class.Protocol && (t class.Call && (t class.Store && (t class.Element && (t class.OpenBracket && (t class.CloseBracket && (t class.OpenParenthesis && (t class.CloseParenthesis && (t class.OpenBrace && (t class.CloseBrace && (t class.Comma && (t class.Tilde && (t class.Plus && (t class.Minus && (t class.Star && (t class.Comparison && (t class.Equals && (t class.Reducing && (t class.Declares && (t class.Dots && (t class.Name && (t class.Number && (t class.Widest && (t class.Unknown && (t class.End)))))))))))))))))))))))))))) (both (t class.Shape) (t class.Loop && (t class.If && (t class.Let && (t class.Turn && (t class.Protocol && (t class.Call && (t class.Store && (t class.Element && (t class.OpenBracket && (t class.CloseBracket && (t class.OpenParenthesis && (t class.CloseParenthesis && (t class.OpenBrace && (t class.CloseBrace && (t class.Comma && (t class.Tilde && (t class.Plus && (t class.Minus && (t class.Star && (t class.Comparison && (t class.Equals && (t class.Reducing && (t class.Declares && (t class.Dots && (t class.Name && (t class.Number && (t class.Widest && (t class.Unknown && (t class.End))))))))))))))))))))))))))))) (both (t class.Fill) (t class.Shape && (t class.Loop && (t class.If && (t class.Let && (t class.Turn && (t class.Protocol && (t class.Call && (t class.Store && (t class.Element && (t class.OpenBracket && (t class.CloseBracket && (t class.OpenParenthesis && (t class.CloseParenthesis && (t class.OpenBrace && (t class.CloseBrace && (t class.Comma && (t class.Tilde && (t class.Plus && (t class.Minus && (t class.Star && (t class.Comparison && (t class.Equals && (t class.Reducing && (t class.Declares && (t class.Dots && (t class.Name && (t class.Number && (t class.Widest && (t class.Unknown && (t class.End)))))))))))))))))))))))))))))) (both (t class.OutOrTmp) (t class.Fill && (t class.Shape && (t class.Loop && (t class.If && (t class.Let && (t class.Turn && (t class.Protocol && (t class.Call && (t class.Store && (t class.Element && (t class.OpenBracket && (t class.CloseBracket && (t class.OpenParenthesis && (t class.CloseParenthesis && (t class.OpenBrace && (t class.CloseBrace && (t class.Comma && (t class.Tilde && (t class.Plus && (t class.Minus && (t class.Star && (t class.Comparison && (t class.Equals && (t class.Reducing && (t class.Declares && (t class.Dots && (t class.Name && (t class.Number && (t class.Widest && (t class.Unknown && (t class.End))))))))))))))))))))))))))))))) (both (t class.In) (t class.OutOrTmp && (t class.Fill && (t class.Shape && (t class.Loop && (t class.If && (t class.Let && (t class.Turn && (t class.Protocol && (t class.Call && (t class.Store && (t class.Element && (t class.OpenBracket && (t class.CloseBracket && (t class.OpenParenthesis && (t class.CloseParenthesis && (t class.OpenBrace && (t class.CloseBrace && (t class.Comma && (t class.Tilde && (t class.Plus && (t class.Minus && (t class.Star && (t class.Comparison && (t class.Equals && (t class.Reducing && (t class.Declares && (t class.Dots && (t class.Name && (t class.Number && (t class.Widest && (t class.Unknown && (t class.End)))))))))))))))))))))))))))))))) h).1).1).1).1).1).1).1).1).1).1).1).1).1).1).1).1).0
+at_each t h class.CloseBrace = (both (t class.CloseBrace) (t class.Comma && (t class.Tilde && (t class.Plus && (t class.Minus && (t class.Star && (t class.Comparison && (t class.Equals && (t class.Reducing && (t class.Declares && (t class.Dots && (t class.Name && (t class.Number && (t class.Widest && (t class.Unknown && (t class.End))))))))))))))) (both (t class.OpenBrace) (t class.CloseBrace && (t class.Comma && (t class.Tilde && (t class.Plus && (t class.Minus && (t class.Star && (t class.Comparison && (t class.Equals && (t class.Reducing && (t class.Declares && (t class.Dots && (t class.Name && (t class.Number && (t class.Widest && (t class.Unknown && (t class.End)))))))))))))))) (both (t class.CloseParenthesis) (t class.OpenBrace && (t class.CloseBrace && (t class.Comma && (t class.Tilde && (t class.Plus && (t class.Minus && (t class.Star && (t class.Comparison && (t class.Equals && (t class.Reducing && (t class.Declares && (t class.Dots && (t class.Name && (t class.Number && (t class.Widest && (t class.Unknown && (t class.End))))))))))))))))) (both (t class.OpenParenthesis) (t class.CloseParenthesis && (t class.OpenBrace && (t class.CloseBrace && (t class.Comma && (t class.Tilde && (t class.Plus && (t class.Minus && (t class.Star && (t class.Comparison && (t class.Equals && (t class.Reducing && (t class.Declares && (t class.Dots && (t class.Name && (t class.Number && (t class.Widest && (t class.Unknown && (t class.End)))))))))))))))))) (both (t class.CloseBracket) (t class.OpenParenthesis && (t class.CloseParenthesis && (t class.OpenBrace && (t class.CloseBrace && (t class.Comma && (t class.Tilde && (t class.Plus && (t class.Minus && (t class.Star && (t class.Comparison && (t class.Equals && (t class.Reducing && (t class.Declares && (t class.Dots && (t class.Name && (t class.Number && (t class.Widest && (t class.Unknown && (t class.End))))))))))))))))))) (both (t class.OpenBracket) (t class.CloseBracket && (t class.OpenParenthesis && (t class.CloseParenthesis && (t class.OpenBrace && (t class.CloseBrace && (t class.Comma && (t class.Tilde && (t class.Plus && (t class.Minus && (t class.Star && (t class.Comparison && (t class.Equals && (t class.Reducing && (t class.Declares && (t class.Dots && (t class.Name && (t class.Number && (t class.Widest && (t class.Unknown && (t class.End)))))))))))))))))))) (both (t class.Element) (t class.OpenBracket && (t class.CloseBracket && (t class.OpenParenthesis && (t class.CloseParenthesis && (t class.OpenBrace && (t class.CloseBrace && (t class.Comma && (t class.Tilde && (t class.Plus && (t class.Minus && (t class.Star && (t class.Comparison && (t class.Equals && (t class.Reducing && (t class.Declares && (t class.Dots && (t class.Name && (t class.Number && (t class.Widest && (t class.Unknown && (t class.End))))))))))))))))))))) (both (t class.Store) (t class.Element && (t class.OpenBracket && (t class.CloseBracket && (t class.OpenParenthesis && (t class.CloseParenthesis && (t class.OpenBrace && (t class.CloseBrace && (t class.Comma && (t class.Tilde && (t class.Plus && (t class.Minus && (t class.Star && (t class.Comparison && (t class.Equals && (t class.Reducing && (t class.Declares && (t class.Dots && (t class.Name && (t class.Number && (t class.Widest && (t class.Unknown && (t class.End)))))))))))))))))))))) (both (t class.Call) (t class.Store && (t class.Element && (t class.OpenBracket && (t class.CloseBracket && (t class.OpenParenthesis && (t class.CloseParenthesis && (t class.OpenBrace && (t class.CloseBrace && (t class.Comma && (t class.Tilde && (t class.Plus && (t class.Minus && (t class.Star && (t class.Comparison && (t class.Equals && (t class.Reducing && (t class.Declares && (t class.Dots && (t class.Name && (t class.Number && (t class.Widest && (t class.Unknown && (t class.End))))))))))))))))))))))) (both (t class.Protocol) (t class.Call && (t class.Store && (t class.Element && (t class.OpenBracket && (t class.CloseBracket && (t class.OpenParenthesis && (t class.CloseParenthesis && (t class.OpenBrace && (t class.CloseBrace && (t class.Comma && (t class.Tilde && (t class.Plus && (t class.Minus && (t class.Star && (t class.Comparison && (t class.Equals && (t class.Reducing && (t class.Declares && (t class.Dots && (t class.Name && (t class.Number && (t class.Widest && (t class.Unknown && (t class.End)))))))))))))))))))))))) (both (t class.Turn) (t class.Protocol && (t class.Call && (t class.Store && (t class.Element && (t class.OpenBracket && (t class.CloseBracket && (t class.OpenParenthesis && (t class.CloseParenthesis && (t class.OpenBrace && (t class.CloseBrace && (t class.Comma && (t class.Tilde && (t class.Plus && (t class.Minus && (t class.Star && (t class.Comparison && (t class.Equals && (t class.Reducing && (t class.Declares && (t class.Dots && (t class.Name && (t class.Number && (t class.Widest && (t class.Unknown && (t class.End))))))))))))))))))))))))) (both (t class.Let) (t class.Turn && (t class.Protocol && (t class.Call && (t class.Store && (t class.Element && (t class.OpenBracket && (t class.CloseBracket && (t class.OpenParenthesis && (t class.CloseParenthesis && (t class.OpenBrace && (t class.CloseBrace && (t class.Comma && (t class.Tilde && (t class.Plus && (t class.Minus && (t class.Star && (t class.Comparison && (t class.Equals && (t class.Reducing && (t class.Declares && (t class.Dots && (t class.Name && (t class.Number && (t class.Widest && (t class.Unknown && (t class.End)))))))))))))))))))))))))) (both (t class.If) (t class.Let && (t class.Turn && (t class.Protocol && (t class.Call && (t class.Store && (t class.Element && (t class.OpenBracket && (t class.CloseBracket && (t class.OpenParenthesis && (t class.CloseParenthesis && (t class.OpenBrace && (t class.CloseBrace && (t class.Comma && (t class.Tilde && (t class.Plus && (t class.Minus && (t class.Star && (t class.Comparison && (t class.Equals && (t class.Reducing && (t class.Declares && (t class.Dots && (t class.Name && (t class.Number && (t class.Widest && (t class.Unknown && (t class.End))))))))))))))))))))))))))) (both (t class.Loop) (t class.If && (t class.Let && (t class.Turn && (t class.Protocol && (t class.Call && (t class.Store && (t class.Element && (t class.OpenBracket && (t class.CloseBracket && (t class.OpenParenthesis && (t class.CloseParenthesis && (t class.OpenBrace && (t class.CloseBrace && (t class.Comma && (t class.Tilde && (t class.Plus && (t class.Minus && (t class.Star && (t class.Comparison && (t class.Equals && (t class.Reducing && (t class.Declares && (t class.Dots && (t class.Name && (t class.Number && (t class.Widest && (t class.Unknown && (t class.End)))))))))))))))))))))))))))) (both (t class.Shape) (t class.Loop && (t class.If && (t class.Let && (t class.Turn && (t class.Protocol && (t class.Call && (t class.Store && (t class.Element && (t class.OpenBracket && (t class.CloseBracket && (t class.OpenParenthesis && (t class.CloseParenthesis && (t class.OpenBrace && (t class.CloseBrace && (t class.Comma && (t class.Tilde && (t class.Plus && (t class.Minus && (t class.Star && (t class.Comparison && (t class.Equals && (t class.Reducing && (t class.Declares && (t class.Dots && (t class.Name && (t class.Number && (t class.Widest && (t class.Unknown && (t class.End))))))))))))))))))))))))))))) (both (t class.Fill) (t class.Shape && (t class.Loop && (t class.If && (t class.Let && (t class.Turn && (t class.Protocol && (t class.Call && (t class.Store && (t class.Element && (t class.OpenBracket && (t class.CloseBracket && (t class.OpenParenthesis && (t class.CloseParenthesis && (t class.OpenBrace && (t class.CloseBrace && (t class.Comma && (t class.Tilde && (t class.Plus && (t class.Minus && (t class.Star && (t class.Comparison && (t class.Equals && (t class.Reducing && (t class.Declares && (t class.Dots && (t class.Name && (t class.Number && (t class.Widest && (t class.Unknown && (t class.End)))))))))))))))))))))))))))))) (both (t class.OutOrTmp) (t class.Fill && (t class.Shape && (t class.Loop && (t class.If && (t class.Let && (t class.Turn && (t class.Protocol && (t class.Call && (t class.Store && (t class.Element && (t class.OpenBracket && (t class.CloseBracket && (t class.OpenParenthesis && (t class.CloseParenthesis && (t class.OpenBrace && (t class.CloseBrace && (t class.Comma && (t class.Tilde && (t class.Plus && (t class.Minus && (t class.Star && (t class.Comparison && (t class.Equals && (t class.Reducing && (t class.Declares && (t class.Dots && (t class.Name && (t class.Number && (t class.Widest && (t class.Unknown && (t class.End))))))))))))))))))))))))))))))) (both (t class.In) (t class.OutOrTmp && (t class.Fill && (t class.Shape && (t class.Loop && (t class.If && (t class.Let && (t class.Turn && (t class.Protocol && (t class.Call && (t class.Store && (t class.Element && (t class.OpenBracket && (t class.CloseBracket && (t class.OpenParenthesis && (t class.CloseParenthesis && (t class.OpenBrace && (t class.CloseBrace && (t class.Comma && (t class.Tilde && (t class.Plus && (t class.Minus && (t class.Star && (t class.Comparison && (t class.Equals && (t class.Reducing && (t class.Declares && (t class.Dots && (t class.Name && (t class.Number && (t class.Widest && (t class.Unknown && (t class.End)))))))))))))))))))))))))))))))) h).1).1).1).1).1).1).1).1).1).1).1).1).1).1).1).1).1).0
+at_each t h class.Comma = (both (t class.Comma) (t class.Tilde && (t class.Plus && (t class.Minus && (t class.Star && (t class.Comparison && (t class.Equals && (t class.Reducing && (t class.Declares && (t class.Dots && (t class.Name && (t class.Number && (t class.Widest && (t class.Unknown && (t class.End)))))))))))))) (both (t class.CloseBrace) (t class.Comma && (t class.Tilde && (t class.Plus && (t class.Minus && (t class.Star && (t class.Comparison && (t class.Equals && (t class.Reducing && (t class.Declares && (t class.Dots && (t class.Name && (t class.Number && (t class.Widest && (t class.Unknown && (t class.End))))))))))))))) (both (t class.OpenBrace) (t class.CloseBrace && (t class.Comma && (t class.Tilde && (t class.Plus && (t class.Minus && (t class.Star && (t class.Comparison && (t class.Equals && (t class.Reducing && (t class.Declares && (t class.Dots && (t class.Name && (t class.Number && (t class.Widest && (t class.Unknown && (t class.End)))))))))))))))) (both (t class.CloseParenthesis) (t class.OpenBrace && (t class.CloseBrace && (t class.Comma && (t class.Tilde && (t class.Plus && (t class.Minus && (t class.Star && (t class.Comparison && (t class.Equals && (t class.Reducing && (t class.Declares && (t class.Dots && (t class.Name && (t class.Number && (t class.Widest && (t class.Unknown && (t class.End))))))))))))))))) (both (t class.OpenParenthesis) (t class.CloseParenthesis && (t class.OpenBrace && (t class.CloseBrace && (t class.Comma && (t class.Tilde && (t class.Plus && (t class.Minus && (t class.Star && (t class.Comparison && (t class.Equals && (t class.Reducing && (t class.Declares && (t class.Dots && (t class.Name && (t class.Number && (t class.Widest && (t class.Unknown && (t class.End)))))))))))))))))) (both (t class.CloseBracket) (t class.OpenParenthesis && (t class.CloseParenthesis && (t class.OpenBrace && (t class.CloseBrace && (t class.Comma && (t class.Tilde && (t class.Plus && (t class.Minus && (t class.Star && (t class.Comparison && (t class.Equals && (t class.Reducing && (t class.Declares && (t class.Dots && (t class.Name && (t class.Number && (t class.Widest && (t class.Unknown && (t class.End))))))))))))))))))) (both (t class.OpenBracket) (t class.CloseBracket && (t class.OpenParenthesis && (t class.CloseParenthesis && (t class.OpenBrace && (t class.CloseBrace && (t class.Comma && (t class.Tilde && (t class.Plus && (t class.Minus && (t class.Star && (t class.Comparison && (t class.Equals && (t class.Reducing && (t class.Declares && (t class.Dots && (t class.Name && (t class.Number && (t class.Widest && (t class.Unknown && (t class.End)))))))))))))))))))) (both (t class.Element) (t class.OpenBracket && (t class.CloseBracket && (t class.OpenParenthesis && (t class.CloseParenthesis && (t class.OpenBrace && (t class.CloseBrace && (t class.Comma && (t class.Tilde && (t class.Plus && (t class.Minus && (t class.Star && (t class.Comparison && (t class.Equals && (t class.Reducing && (t class.Declares && (t class.Dots && (t class.Name && (t class.Number && (t class.Widest && (t class.Unknown && (t class.End))))))))))))))))))))) (both (t class.Store) (t class.Element && (t class.OpenBracket && (t class.CloseBracket && (t class.OpenParenthesis && (t class.CloseParenthesis && (t class.OpenBrace && (t class.CloseBrace && (t class.Comma && (t class.Tilde && (t class.Plus && (t class.Minus && (t class.Star && (t class.Comparison && (t class.Equals && (t class.Reducing && (t class.Declares && (t class.Dots && (t class.Name && (t class.Number && (t class.Widest && (t class.Unknown && (t class.End)))))))))))))))))))))) (both (t class.Call) (t class.Store && (t class.Element && (t class.OpenBracket && (t class.CloseBracket && (t class.OpenParenthesis && (t class.CloseParenthesis && (t class.OpenBrace && (t class.CloseBrace && (t class.Comma && (t class.Tilde && (t class.Plus && (t class.Minus && (t class.Star && (t class.Comparison && (t class.Equals && (t class.Reducing && (t class.Declares && (t class.Dots && (t class.Name && (t class.Number && (t class.Widest && (t class.Unknown && (t class.End))))))))))))))))))))))) (both (t class.Protocol) (t class.Call && (t class.Store && (t class.Element && (t class.OpenBracket && (t class.CloseBracket && (t class.OpenParenthesis && (t class.CloseParenthesis && (t class.OpenBrace && (t class.CloseBrace && (t class.Comma && (t class.Tilde && (t class.Plus && (t class.Minus && (t class.Star && (t class.Comparison && (t class.Equals && (t class.Reducing && (t class.Declares && (t class.Dots && (t class.Name && (t class.Number && (t class.Widest && (t class.Unknown && (t class.End)))))))))))))))))))))))) (both (t class.Turn) (t class.Protocol && (t class.Call && (t class.Store && (t class.Element && (t class.OpenBracket && (t class.CloseBracket && (t class.OpenParenthesis && (t class.CloseParenthesis && (t class.OpenBrace && (t class.CloseBrace && (t class.Comma && (t class.Tilde && (t class.Plus && (t class.Minus && (t class.Star && (t class.Comparison && (t class.Equals && (t class.Reducing && (t class.Declares && (t class.Dots && (t class.Name && (t class.Number && (t class.Widest && (t class.Unknown && (t class.End))))))))))))))))))))))))) (both (t class.Let) (t class.Turn && (t class.Protocol && (t class.Call && (t class.Store && (t class.Element && (t class.OpenBracket && (t class.CloseBracket && (t class.OpenParenthesis && (t class.CloseParenthesis && (t class.OpenBrace && (t class.CloseBrace && (t class.Comma && (t class.Tilde && (t class.Plus && (t class.Minus && (t class.Star && (t class.Comparison && (t class.Equals && (t class.Reducing && (t class.Declares && (t class.Dots && (t class.Name && (t class.Number && (t class.Widest && (t class.Unknown && (t class.End)))))))))))))))))))))))))) (both (t class.If) (t class.Let && (t class.Turn && (t class.Protocol && (t class.Call && (t class.Store && (t class.Element && (t class.OpenBracket && (t class.CloseBracket && (t class.OpenParenthesis && (t class.CloseParenthesis && (t class.OpenBrace && (t class.CloseBrace && (t class.Comma && (t class.Tilde && (t class.Plus && (t class.Minus && (t class.Star && (t class.Comparison && (t class.Equals && (t class.Reducing && (t class.Declares && (t class.Dots && (t class.Name && (t class.Number && (t class.Widest && (t class.Unknown && (t class.End))))))))))))))))))))))))))) (both (t class.Loop) (t class.If && (t class.Let && (t class.Turn && (t class.Protocol && (t class.Call && (t class.Store && (t class.Element && (t class.OpenBracket && (t class.CloseBracket && (t class.OpenParenthesis && (t class.CloseParenthesis && (t class.OpenBrace && (t class.CloseBrace && (t class.Comma && (t class.Tilde && (t class.Plus && (t class.Minus && (t class.Star && (t class.Comparison && (t class.Equals && (t class.Reducing && (t class.Declares && (t class.Dots && (t class.Name && (t class.Number && (t class.Widest && (t class.Unknown && (t class.End)))))))))))))))))))))))))))) (both (t class.Shape) (t class.Loop && (t class.If && (t class.Let && (t class.Turn && (t class.Protocol && (t class.Call && (t class.Store && (t class.Element && (t class.OpenBracket && (t class.CloseBracket && (t class.OpenParenthesis && (t class.CloseParenthesis && (t class.OpenBrace && (t class.CloseBrace && (t class.Comma && (t class.Tilde && (t class.Plus && (t class.Minus && (t class.Star && (t class.Comparison && (t class.Equals && (t class.Reducing && (t class.Declares && (t class.Dots && (t class.Name && (t class.Number && (t class.Widest && (t class.Unknown && (t class.End))))))))))))))))))))))))))))) (both (t class.Fill) (t class.Shape && (t class.Loop && (t class.If && (t class.Let && (t class.Turn && (t class.Protocol && (t class.Call && (t class.Store && (t class.Element && (t class.OpenBracket && (t class.CloseBracket && (t class.OpenParenthesis && (t class.CloseParenthesis && (t class.OpenBrace && (t class.CloseBrace && (t class.Comma && (t class.Tilde && (t class.Plus && (t class.Minus && (t class.Star && (t class.Comparison && (t class.Equals && (t class.Reducing && (t class.Declares && (t class.Dots && (t class.Name && (t class.Number && (t class.Widest && (t class.Unknown && (t class.End)))))))))))))))))))))))))))))) (both (t class.OutOrTmp) (t class.Fill && (t class.Shape && (t class.Loop && (t class.If && (t class.Let && (t class.Turn && (t class.Protocol && (t class.Call && (t class.Store && (t class.Element && (t class.OpenBracket && (t class.CloseBracket && (t class.OpenParenthesis && (t class.CloseParenthesis && (t class.OpenBrace && (t class.CloseBrace && (t class.Comma && (t class.Tilde && (t class.Plus && (t class.Minus && (t class.Star && (t class.Comparison && (t class.Equals && (t class.Reducing && (t class.Declares && (t class.Dots && (t class.Name && (t class.Number && (t class.Widest && (t class.Unknown && (t class.End))))))))))))))))))))))))))))))) (both (t class.In) (t class.OutOrTmp && (t class.Fill && (t class.Shape && (t class.Loop && (t class.If && (t class.Let && (t class.Turn && (t class.Protocol && (t class.Call && (t class.Store && (t class.Element && (t class.OpenBracket && (t class.CloseBracket && (t class.OpenParenthesis && (t class.CloseParenthesis && (t class.OpenBrace && (t class.CloseBrace && (t class.Comma && (t class.Tilde && (t class.Plus && (t class.Minus && (t class.Star && (t class.Comparison && (t class.Equals && (t class.Reducing && (t class.Declares && (t class.Dots && (t class.Name && (t class.Number && (t class.Widest && (t class.Unknown && (t class.End)))))))))))))))))))))))))))))))) h).1).1).1).1).1).1).1).1).1).1).1).1).1).1).1).1).1).1).0
+at_each t h class.Tilde = (both (t class.Tilde) (t class.Plus && (t class.Minus && (t class.Star && (t class.Comparison && (t class.Equals && (t class.Reducing && (t class.Declares && (t class.Dots && (t class.Name && (t class.Number && (t class.Widest && (t class.Unknown && (t class.End))))))))))))) (both (t class.Comma) (t class.Tilde && (t class.Plus && (t class.Minus && (t class.Star && (t class.Comparison && (t class.Equals && (t class.Reducing && (t class.Declares && (t class.Dots && (t class.Name && (t class.Number && (t class.Widest && (t class.Unknown && (t class.End)))))))))))))) (both (t class.CloseBrace) (t class.Comma && (t class.Tilde && (t class.Plus && (t class.Minus && (t class.Star && (t class.Comparison && (t class.Equals && (t class.Reducing && (t class.Declares && (t class.Dots && (t class.Name && (t class.Number && (t class.Widest && (t class.Unknown && (t class.End))))))))))))))) (both (t class.OpenBrace) (t class.CloseBrace && (t class.Comma && (t class.Tilde && (t class.Plus && (t class.Minus && (t class.Star && (t class.Comparison && (t class.Equals && (t class.Reducing && (t class.Declares && (t class.Dots && (t class.Name && (t class.Number && (t class.Widest && (t class.Unknown && (t class.End)))))))))))))))) (both (t class.CloseParenthesis) (t class.OpenBrace && (t class.CloseBrace && (t class.Comma && (t class.Tilde && (t class.Plus && (t class.Minus && (t class.Star && (t class.Comparison && (t class.Equals && (t class.Reducing && (t class.Declares && (t class.Dots && (t class.Name && (t class.Number && (t class.Widest && (t class.Unknown && (t class.End))))))))))))))))) (both (t class.OpenParenthesis) (t class.CloseParenthesis && (t class.OpenBrace && (t class.CloseBrace && (t class.Comma && (t class.Tilde && (t class.Plus && (t class.Minus && (t class.Star && (t class.Comparison && (t class.Equals && (t class.Reducing && (t class.Declares && (t class.Dots && (t class.Name && (t class.Number && (t class.Widest && (t class.Unknown && (t class.End)))))))))))))))))) (both (t class.CloseBracket) (t class.OpenParenthesis && (t class.CloseParenthesis && (t class.OpenBrace && (t class.CloseBrace && (t class.Comma && (t class.Tilde && (t class.Plus && (t class.Minus && (t class.Star && (t class.Comparison && (t class.Equals && (t class.Reducing && (t class.Declares && (t class.Dots && (t class.Name && (t class.Number && (t class.Widest && (t class.Unknown && (t class.End))))))))))))))))))) (both (t class.OpenBracket) (t class.CloseBracket && (t class.OpenParenthesis && (t class.CloseParenthesis && (t class.OpenBrace && (t class.CloseBrace && (t class.Comma && (t class.Tilde && (t class.Plus && (t class.Minus && (t class.Star && (t class.Comparison && (t class.Equals && (t class.Reducing && (t class.Declares && (t class.Dots && (t class.Name && (t class.Number && (t class.Widest && (t class.Unknown && (t class.End)))))))))))))))))))) (both (t class.Element) (t class.OpenBracket && (t class.CloseBracket && (t class.OpenParenthesis && (t class.CloseParenthesis && (t class.OpenBrace && (t class.CloseBrace && (t class.Comma && (t class.Tilde && (t class.Plus && (t class.Minus && (t class.Star && (t class.Comparison && (t class.Equals && (t class.Reducing && (t class.Declares && (t class.Dots && (t class.Name && (t class.Number && (t class.Widest && (t class.Unknown && (t class.End))))))))))))))))))))) (both (t class.Store) (t class.Element && (t class.OpenBracket && (t class.CloseBracket && (t class.OpenParenthesis && (t class.CloseParenthesis && (t class.OpenBrace && (t class.CloseBrace && (t class.Comma && (t class.Tilde && (t class.Plus && (t class.Minus && (t class.Star && (t class.Comparison && (t class.Equals && (t class.Reducing && (t class.Declares && (t class.Dots && (t class.Name && (t class.Number && (t class.Widest && (t class.Unknown && (t class.End)))))))))))))))))))))) (both (t class.Call) (t class.Store && (t class.Element && (t class.OpenBracket && (t class.CloseBracket && (t class.OpenParenthesis && (t class.CloseParenthesis && (t class.OpenBrace && (t class.CloseBrace && (t class.Comma && (t class.Tilde && (t class.Plus && (t class.Minus && (t class.Star && (t class.Comparison && (t class.Equals && (t class.Reducing && (t class.Declares && (t class.Dots && (t class.Name && (t class.Number && (t class.Widest && (t class.Unknown && (t class.End))))))))))))))))))))))) (both (t class.Protocol) (t class.Call && (t class.Store && (t class.Element && (t class.OpenBracket && (t class.CloseBracket && (t class.OpenParenthesis && (t class.CloseParenthesis && (t class.OpenBrace && (t class.CloseBrace && (t class.Comma && (t class.Tilde && (t class.Plus && (t class.Minus && (t class.Star && (t class.Comparison && (t class.Equals && (t class.Reducing && (t class.Declares && (t class.Dots && (t class.Name && (t class.Number && (t class.Widest && (t class.Unknown && (t class.End)))))))))))))))))))))))) (both (t class.Turn) (t class.Protocol && (t class.Call && (t class.Store && (t class.Element && (t class.OpenBracket && (t class.CloseBracket && (t class.OpenParenthesis && (t class.CloseParenthesis && (t class.OpenBrace && (t class.CloseBrace && (t class.Comma && (t class.Tilde && (t class.Plus && (t class.Minus && (t class.Star && (t class.Comparison && (t class.Equals && (t class.Reducing && (t class.Declares && (t class.Dots && (t class.Name && (t class.Number && (t class.Widest && (t class.Unknown && (t class.End))))))))))))))))))))))))) (both (t class.Let) (t class.Turn && (t class.Protocol && (t class.Call && (t class.Store && (t class.Element && (t class.OpenBracket && (t class.CloseBracket && (t class.OpenParenthesis && (t class.CloseParenthesis && (t class.OpenBrace && (t class.CloseBrace && (t class.Comma && (t class.Tilde && (t class.Plus && (t class.Minus && (t class.Star && (t class.Comparison && (t class.Equals && (t class.Reducing && (t class.Declares && (t class.Dots && (t class.Name && (t class.Number && (t class.Widest && (t class.Unknown && (t class.End)))))))))))))))))))))))))) (both (t class.If) (t class.Let && (t class.Turn && (t class.Protocol && (t class.Call && (t class.Store && (t class.Element && (t class.OpenBracket && (t class.CloseBracket && (t class.OpenParenthesis && (t class.CloseParenthesis && (t class.OpenBrace && (t class.CloseBrace && (t class.Comma && (t class.Tilde && (t class.Plus && (t class.Minus && (t class.Star && (t class.Comparison && (t class.Equals && (t class.Reducing && (t class.Declares && (t class.Dots && (t class.Name && (t class.Number && (t class.Widest && (t class.Unknown && (t class.End))))))))))))))))))))))))))) (both (t class.Loop) (t class.If && (t class.Let && (t class.Turn && (t class.Protocol && (t class.Call && (t class.Store && (t class.Element && (t class.OpenBracket && (t class.CloseBracket && (t class.OpenParenthesis && (t class.CloseParenthesis && (t class.OpenBrace && (t class.CloseBrace && (t class.Comma && (t class.Tilde && (t class.Plus && (t class.Minus && (t class.Star && (t class.Comparison && (t class.Equals && (t class.Reducing && (t class.Declares && (t class.Dots && (t class.Name && (t class.Number && (t class.Widest && (t class.Unknown && (t class.End)))))))))))))))))))))))))))) (both (t class.Shape) (t class.Loop && (t class.If && (t class.Let && (t class.Turn && (t class.Protocol && (t class.Call && (t class.Store && (t class.Element && (t class.OpenBracket && (t class.CloseBracket && (t class.OpenParenthesis && (t class.CloseParenthesis && (t class.OpenBrace && (t class.CloseBrace && (t class.Comma && (t class.Tilde && (t class.Plus && (t class.Minus && (t class.Star && (t class.Comparison && (t class.Equals && (t class.Reducing && (t class.Declares && (t class.Dots && (t class.Name && (t class.Number && (t class.Widest && (t class.Unknown && (t class.End))))))))))))))))))))))))))))) (both (t class.Fill) (t class.Shape && (t class.Loop && (t class.If && (t class.Let && (t class.Turn && (t class.Protocol && (t class.Call && (t class.Store && (t class.Element && (t class.OpenBracket && (t class.CloseBracket && (t class.OpenParenthesis && (t class.CloseParenthesis && (t class.OpenBrace && (t class.CloseBrace && (t class.Comma && (t class.Tilde && (t class.Plus && (t class.Minus && (t class.Star && (t class.Comparison && (t class.Equals && (t class.Reducing && (t class.Declares && (t class.Dots && (t class.Name && (t class.Number && (t class.Widest && (t class.Unknown && (t class.End)))))))))))))))))))))))))))))) (both (t class.OutOrTmp) (t class.Fill && (t class.Shape && (t class.Loop && (t class.If && (t class.Let && (t class.Turn && (t class.Protocol && (t class.Call && (t class.Store && (t class.Element && (t class.OpenBracket && (t class.CloseBracket && (t class.OpenParenthesis && (t class.CloseParenthesis && (t class.OpenBrace && (t class.CloseBrace && (t class.Comma && (t class.Tilde && (t class.Plus && (t class.Minus && (t class.Star && (t class.Comparison && (t class.Equals && (t class.Reducing && (t class.Declares && (t class.Dots && (t class.Name && (t class.Number && (t class.Widest && (t class.Unknown && (t class.End))))))))))))))))))))))))))))))) (both (t class.In) (t class.OutOrTmp && (t class.Fill && (t class.Shape && (t class.Loop && (t class.If && (t class.Let && (t class.Turn && (t class.Protocol && (t class.Call && (t class.Store && (t class.Element && (t class.OpenBracket && (t class.CloseBracket && (t class.OpenParenthesis && (t class.CloseParenthesis && (t class.OpenBrace && (t class.CloseBrace && (t class.Comma && (t class.Tilde && (t class.Plus && (t class.Minus && (t class.Star && (t class.Comparison && (t class.Equals && (t class.Reducing && (t class.Declares && (t class.Dots && (t class.Name && (t class.Number && (t class.Widest && (t class.Unknown && (t class.End)))))))))))))))))))))))))))))))) h).1).1).1).1).1).1).1).1).1).1).1).1).1).1).1).1).1).1).1).0
+at_each t h class.Plus = (both (t class.Plus) (t class.Minus && (t class.Star && (t class.Comparison && (t class.Equals && (t class.Reducing && (t class.Declares && (t class.Dots && (t class.Name && (t class.Number && (t class.Widest && (t class.Unknown && (t class.End)))))))))))) (both (t class.Tilde) (t class.Plus && (t class.Minus && (t class.Star && (t class.Comparison && (t class.Equals && (t class.Reducing && (t class.Declares && (t class.Dots && (t class.Name && (t class.Number && (t class.Widest && (t class.Unknown && (t class.End))))))))))))) (both (t class.Comma) (t class.Tilde && (t class.Plus && (t class.Minus && (t class.Star && (t class.Comparison && (t class.Equals && (t class.Reducing && (t class.Declares && (t class.Dots && (t class.Name && (t class.Number && (t class.Widest && (t class.Unknown && (t class.End)))))))))))))) (both (t class.CloseBrace) (t class.Comma && (t class.Tilde && (t class.Plus && (t class.Minus && (t class.Star && (t class.Comparison && (t class.Equals && (t class.Reducing && (t class.Declares && (t class.Dots && (t class.Name && (t class.Number && (t class.Widest && (t class.Unknown && (t class.End))))))))))))))) (both (t class.OpenBrace) (t class.CloseBrace && (t class.Comma && (t class.Tilde && (t class.Plus && (t class.Minus && (t class.Star && (t class.Comparison && (t class.Equals && (t class.Reducing && (t class.Declares && (t class.Dots && (t class.Name && (t class.Number && (t class.Widest && (t class.Unknown && (t class.End)))))))))))))))) (both (t class.CloseParenthesis) (t class.OpenBrace && (t class.CloseBrace && (t class.Comma && (t class.Tilde && (t class.Plus && (t class.Minus && (t class.Star && (t class.Comparison && (t class.Equals && (t class.Reducing && (t class.Declares && (t class.Dots && (t class.Name && (t class.Number && (t class.Widest && (t class.Unknown && (t class.End))))))))))))))))) (both (t class.OpenParenthesis) (t class.CloseParenthesis && (t class.OpenBrace && (t class.CloseBrace && (t class.Comma && (t class.Tilde && (t class.Plus && (t class.Minus && (t class.Star && (t class.Comparison && (t class.Equals && (t class.Reducing && (t class.Declares && (t class.Dots && (t class.Name && (t class.Number && (t class.Widest && (t class.Unknown && (t class.End)))))))))))))))))) (both (t class.CloseBracket) (t class.OpenParenthesis && (t class.CloseParenthesis && (t class.OpenBrace && (t class.CloseBrace && (t class.Comma && (t class.Tilde && (t class.Plus && (t class.Minus && (t class.Star && (t class.Comparison && (t class.Equals && (t class.Reducing && (t class.Declares && (t class.Dots && (t class.Name && (t class.Number && (t class.Widest && (t class.Unknown && (t class.End))))))))))))))))))) (both (t class.OpenBracket) (t class.CloseBracket && (t class.OpenParenthesis && (t class.CloseParenthesis && (t class.OpenBrace && (t class.CloseBrace && (t class.Comma && (t class.Tilde && (t class.Plus && (t class.Minus && (t class.Star && (t class.Comparison && (t class.Equals && (t class.Reducing && (t class.Declares && (t class.Dots && (t class.Name && (t class.Number && (t class.Widest && (t class.Unknown && (t class.End)))))))))))))))))))) (both (t class.Element) (t class.OpenBracket && (t class.CloseBracket && (t class.OpenParenthesis && (t class.CloseParenthesis && (t class.OpenBrace && (t class.CloseBrace && (t class.Comma && (t class.Tilde && (t class.Plus && (t class.Minus && (t class.Star && (t class.Comparison && (t class.Equals && (t class.Reducing && (t class.Declares && (t class.Dots && (t class.Name && (t class.Number && (t class.Widest && (t class.Unknown && (t class.End))))))))))))))))))))) (both (t class.Store) (t class.Element && (t class.OpenBracket && (t class.CloseBracket && (t class.OpenParenthesis && (t class.CloseParenthesis && (t class.OpenBrace && (t class.CloseBrace && (t class.Comma && (t class.Tilde && (t class.Plus && (t class.Minus && (t class.Star && (t class.Comparison && (t class.Equals && (t class.Reducing && (t class.Declares && (t class.Dots && (t class.Name && (t class.Number && (t class.Widest && (t class.Unknown && (t class.End)))))))))))))))))))))) (both (t class.Call) (t class.Store && (t class.Element && (t class.OpenBracket && (t class.CloseBracket && (t class.OpenParenthesis && (t class.CloseParenthesis && (t class.OpenBrace && (t class.CloseBrace && (t class.Comma && (t class.Tilde && (t class.Plus && (t class.Minus && (t class.Star && (t class.Comparison && (t class.Equals && (t class.Reducing && (t class.Declares && (t class.Dots && (t class.Name && (t class.Number && (t class.Widest && (t class.Unknown && (t class.End))))))))))))))))))))))) (both (t class.Protocol) (t class.Call && (t class.Store && (t class.Element && (t class.OpenBracket && (t class.CloseBracket && (t class.OpenParenthesis && (t class.CloseParenthesis && (t class.OpenBrace && (t class.CloseBrace && (t class.Comma && (t class.Tilde && (t class.Plus && (t class.Minus && (t class.Star && (t class.Comparison && (t class.Equals && (t class.Reducing && (t class.Declares && (t class.Dots && (t class.Name && (t class.Number && (t class.Widest && (t class.Unknown && (t class.End)))))))))))))))))))))))) (both (t class.Turn) (t class.Protocol && (t class.Call && (t class.Store && (t class.Element && (t class.OpenBracket && (t class.CloseBracket && (t class.OpenParenthesis && (t class.CloseParenthesis && (t class.OpenBrace && (t class.CloseBrace && (t class.Comma && (t class.Tilde && (t class.Plus && (t class.Minus && (t class.Star && (t class.Comparison && (t class.Equals && (t class.Reducing && (t class.Declares && (t class.Dots && (t class.Name && (t class.Number && (t class.Widest && (t class.Unknown && (t class.End))))))))))))))))))))))))) (both (t class.Let) (t class.Turn && (t class.Protocol && (t class.Call && (t class.Store && (t class.Element && (t class.OpenBracket && (t class.CloseBracket && (t class.OpenParenthesis && (t class.CloseParenthesis && (t class.OpenBrace && (t class.CloseBrace && (t class.Comma && (t class.Tilde && (t class.Plus && (t class.Minus && (t class.Star && (t class.Comparison && (t class.Equals && (t class.Reducing && (t class.Declares && (t class.Dots && (t class.Name && (t class.Number && (t class.Widest && (t class.Unknown && (t class.End)))))))))))))))))))))))))) (both (t class.If) (t class.Let && (t class.Turn && (t class.Protocol && (t class.Call && (t class.Store && (t class.Element && (t class.OpenBracket && (t class.CloseBracket && (t class.OpenParenthesis && (t class.CloseParenthesis && (t class.OpenBrace && (t class.CloseBrace && (t class.Comma && (t class.Tilde && (t class.Plus && (t class.Minus && (t class.Star && (t class.Comparison && (t class.Equals && (t class.Reducing && (t class.Declares && (t class.Dots && (t class.Name && (t class.Number && (t class.Widest && (t class.Unknown && (t class.End))))))))))))))))))))))))))) (both (t class.Loop) (t class.If && (t class.Let && (t class.Turn && (t class.Protocol && (t class.Call && (t class.Store && (t class.Element && (t class.OpenBracket && (t class.CloseBracket && (t class.OpenParenthesis && (t class.CloseParenthesis && (t class.OpenBrace && (t class.CloseBrace && (t class.Comma && (t class.Tilde && (t class.Plus && (t class.Minus && (t class.Star && (t class.Comparison && (t class.Equals && (t class.Reducing && (t class.Declares && (t class.Dots && (t class.Name && (t class.Number && (t class.Widest && (t class.Unknown && (t class.End)))))))))))))))))))))))))))) (both (t class.Shape) (t class.Loop && (t class.If && (t class.Let && (t class.Turn && (t class.Protocol && (t class.Call && (t class.Store && (t class.Element && (t class.OpenBracket && (t class.CloseBracket && (t class.OpenParenthesis && (t class.CloseParenthesis && (t class.OpenBrace && (t class.CloseBrace && (t class.Comma && (t class.Tilde && (t class.Plus && (t class.Minus && (t class.Star && (t class.Comparison && (t class.Equals && (t class.Reducing && (t class.Declares && (t class.Dots && (t class.Name && (t class.Number && (t class.Widest && (t class.Unknown && (t class.End))))))))))))))))))))))))))))) (both (t class.Fill) (t class.Shape && (t class.Loop && (t class.If && (t class.Let && (t class.Turn && (t class.Protocol && (t class.Call && (t class.Store && (t class.Element && (t class.OpenBracket && (t class.CloseBracket && (t class.OpenParenthesis && (t class.CloseParenthesis && (t class.OpenBrace && (t class.CloseBrace && (t class.Comma && (t class.Tilde && (t class.Plus && (t class.Minus && (t class.Star && (t class.Comparison && (t class.Equals && (t class.Reducing && (t class.Declares && (t class.Dots && (t class.Name && (t class.Number && (t class.Widest && (t class.Unknown && (t class.End)))))))))))))))))))))))))))))) (both (t class.OutOrTmp) (t class.Fill && (t class.Shape && (t class.Loop && (t class.If && (t class.Let && (t class.Turn && (t class.Protocol && (t class.Call && (t class.Store && (t class.Element && (t class.OpenBracket && (t class.CloseBracket && (t class.OpenParenthesis && (t class.CloseParenthesis && (t class.OpenBrace && (t class.CloseBrace && (t class.Comma && (t class.Tilde && (t class.Plus && (t class.Minus && (t class.Star && (t class.Comparison && (t class.Equals && (t class.Reducing && (t class.Declares && (t class.Dots && (t class.Name && (t class.Number && (t class.Widest && (t class.Unknown && (t class.End))))))))))))))))))))))))))))))) (both (t class.In) (t class.OutOrTmp && (t class.Fill && (t class.Shape && (t class.Loop && (t class.If && (t class.Let && (t class.Turn && (t class.Protocol && (t class.Call && (t class.Store && (t class.Element && (t class.OpenBracket && (t class.CloseBracket && (t class.OpenParenthesis && (t class.CloseParenthesis && (t class.OpenBrace && (t class.CloseBrace && (t class.Comma && (t class.Tilde && (t class.Plus && (t class.Minus && (t class.Star && (t class.Comparison && (t class.Equals && (t class.Reducing && (t class.Declares && (t class.Dots && (t class.Name && (t class.Number && (t class.Widest && (t class.Unknown && (t class.End)))))))))))))))))))))))))))))))) h).1).1).1).1).1).1).1).1).1).1).1).1).1).1).1).1).1).1).1).1).0
+at_each t h class.Minus = (both (t class.Minus) (t class.Star && (t class.Comparison && (t class.Equals && (t class.Reducing && (t class.Declares && (t class.Dots && (t class.Name && (t class.Number && (t class.Widest && (t class.Unknown && (t class.End))))))))))) (both (t class.Plus) (t class.Minus && (t class.Star && (t class.Comparison && (t class.Equals && (t class.Reducing && (t class.Declares && (t class.Dots && (t class.Name && (t class.Number && (t class.Widest && (t class.Unknown && (t class.End)))))))))))) (both (t class.Tilde) (t class.Plus && (t class.Minus && (t class.Star && (t class.Comparison && (t class.Equals && (t class.Reducing && (t class.Declares && (t class.Dots && (t class.Name && (t class.Number && (t class.Widest && (t class.Unknown && (t class.End))))))))))))) (both (t class.Comma) (t class.Tilde && (t class.Plus && (t class.Minus && (t class.Star && (t class.Comparison && (t class.Equals && (t class.Reducing && (t class.Declares && (t class.Dots && (t class.Name && (t class.Number && (t class.Widest && (t class.Unknown && (t class.End)))))))))))))) (both (t class.CloseBrace) (t class.Comma && (t class.Tilde && (t class.Plus && (t class.Minus && (t class.Star && (t class.Comparison && (t class.Equals && (t class.Reducing && (t class.Declares && (t class.Dots && (t class.Name && (t class.Number && (t class.Widest && (t class.Unknown && (t class.End))))))))))))))) (both (t class.OpenBrace) (t class.CloseBrace && (t class.Comma && (t class.Tilde && (t class.Plus && (t class.Minus && (t class.Star && (t class.Comparison && (t class.Equals && (t class.Reducing && (t class.Declares && (t class.Dots && (t class.Name && (t class.Number && (t class.Widest && (t class.Unknown && (t class.End)))))))))))))))) (both (t class.CloseParenthesis) (t class.OpenBrace && (t class.CloseBrace && (t class.Comma && (t class.Tilde && (t class.Plus && (t class.Minus && (t class.Star && (t class.Comparison && (t class.Equals && (t class.Reducing && (t class.Declares && (t class.Dots && (t class.Name && (t class.Number && (t class.Widest && (t class.Unknown && (t class.End))))))))))))))))) (both (t class.OpenParenthesis) (t class.CloseParenthesis && (t class.OpenBrace && (t class.CloseBrace && (t class.Comma && (t class.Tilde && (t class.Plus && (t class.Minus && (t class.Star && (t class.Comparison && (t class.Equals && (t class.Reducing && (t class.Declares && (t class.Dots && (t class.Name && (t class.Number && (t class.Widest && (t class.Unknown && (t class.End)))))))))))))))))) (both (t class.CloseBracket) (t class.OpenParenthesis && (t class.CloseParenthesis && (t class.OpenBrace && (t class.CloseBrace && (t class.Comma && (t class.Tilde && (t class.Plus && (t class.Minus && (t class.Star && (t class.Comparison && (t class.Equals && (t class.Reducing && (t class.Declares && (t class.Dots && (t class.Name && (t class.Number && (t class.Widest && (t class.Unknown && (t class.End))))))))))))))))))) (both (t class.OpenBracket) (t class.CloseBracket && (t class.OpenParenthesis && (t class.CloseParenthesis && (t class.OpenBrace && (t class.CloseBrace && (t class.Comma && (t class.Tilde && (t class.Plus && (t class.Minus && (t class.Star && (t class.Comparison && (t class.Equals && (t class.Reducing && (t class.Declares && (t class.Dots && (t class.Name && (t class.Number && (t class.Widest && (t class.Unknown && (t class.End)))))))))))))))))))) (both (t class.Element) (t class.OpenBracket && (t class.CloseBracket && (t class.OpenParenthesis && (t class.CloseParenthesis && (t class.OpenBrace && (t class.CloseBrace && (t class.Comma && (t class.Tilde && (t class.Plus && (t class.Minus && (t class.Star && (t class.Comparison && (t class.Equals && (t class.Reducing && (t class.Declares && (t class.Dots && (t class.Name && (t class.Number && (t class.Widest && (t class.Unknown && (t class.End))))))))))))))))))))) (both (t class.Store) (t class.Element && (t class.OpenBracket && (t class.CloseBracket && (t class.OpenParenthesis && (t class.CloseParenthesis && (t class.OpenBrace && (t class.CloseBrace && (t class.Comma && (t class.Tilde && (t class.Plus && (t class.Minus && (t class.Star && (t class.Comparison && (t class.Equals && (t class.Reducing && (t class.Declares && (t class.Dots && (t class.Name && (t class.Number && (t class.Widest && (t class.Unknown && (t class.End)))))))))))))))))))))) (both (t class.Call) (t class.Store && (t class.Element && (t class.OpenBracket && (t class.CloseBracket && (t class.OpenParenthesis && (t class.CloseParenthesis && (t class.OpenBrace && (t class.CloseBrace && (t class.Comma && (t class.Tilde && (t class.Plus && (t class.Minus && (t class.Star && (t class.Comparison && (t class.Equals && (t class.Reducing && (t class.Declares && (t class.Dots && (t class.Name && (t class.Number && (t class.Widest && (t class.Unknown && (t class.End))))))))))))))))))))))) (both (t class.Protocol) (t class.Call && (t class.Store && (t class.Element && (t class.OpenBracket && (t class.CloseBracket && (t class.OpenParenthesis && (t class.CloseParenthesis && (t class.OpenBrace && (t class.CloseBrace && (t class.Comma && (t class.Tilde && (t class.Plus && (t class.Minus && (t class.Star && (t class.Comparison && (t class.Equals && (t class.Reducing && (t class.Declares && (t class.Dots && (t class.Name && (t class.Number && (t class.Widest && (t class.Unknown && (t class.End)))))))))))))))))))))))) (both (t class.Turn) (t class.Protocol && (t class.Call && (t class.Store && (t class.Element && (t class.OpenBracket && (t class.CloseBracket && (t class.OpenParenthesis && (t class.CloseParenthesis && (t class.OpenBrace && (t class.CloseBrace && (t class.Comma && (t class.Tilde && (t class.Plus && (t class.Minus && (t class.Star && (t class.Comparison && (t class.Equals && (t class.Reducing && (t class.Declares && (t class.Dots && (t class.Name && (t class.Number && (t class.Widest && (t class.Unknown && (t class.End))))))))))))))))))))))))) (both (t class.Let) (t class.Turn && (t class.Protocol && (t class.Call && (t class.Store && (t class.Element && (t class.OpenBracket && (t class.CloseBracket && (t class.OpenParenthesis && (t class.CloseParenthesis && (t class.OpenBrace && (t class.CloseBrace && (t class.Comma && (t class.Tilde && (t class.Plus && (t class.Minus && (t class.Star && (t class.Comparison && (t class.Equals && (t class.Reducing && (t class.Declares && (t class.Dots && (t class.Name && (t class.Number && (t class.Widest && (t class.Unknown && (t class.End)))))))))))))))))))))))))) (both (t class.If) (t class.Let && (t class.Turn && (t class.Protocol && (t class.Call && (t class.Store && (t class.Element && (t class.OpenBracket && (t class.CloseBracket && (t class.OpenParenthesis && (t class.CloseParenthesis && (t class.OpenBrace && (t class.CloseBrace && (t class.Comma && (t class.Tilde && (t class.Plus && (t class.Minus && (t class.Star && (t class.Comparison && (t class.Equals && (t class.Reducing && (t class.Declares && (t class.Dots && (t class.Name && (t class.Number && (t class.Widest && (t class.Unknown && (t class.End))))))))))))))))))))))))))) (both (t class.Loop) (t class.If && (t class.Let && (t class.Turn && (t class.Protocol && (t class.Call && (t class.Store && (t class.Element && (t class.OpenBracket && (t class.CloseBracket && (t class.OpenParenthesis && (t class.CloseParenthesis && (t class.OpenBrace && (t class.CloseBrace && (t class.Comma && (t class.Tilde && (t class.Plus && (t class.Minus && (t class.Star && (t class.Comparison && (t class.Equals && (t class.Reducing && (t class.Declares && (t class.Dots && (t class.Name && (t class.Number && (t class.Widest && (t class.Unknown && (t class.End)))))))))))))))))))))))))))) (both (t class.Shape) (t class.Loop && (t class.If && (t class.Let && (t class.Turn && (t class.Protocol && (t class.Call && (t class.Store && (t class.Element && (t class.OpenBracket && (t class.CloseBracket && (t class.OpenParenthesis && (t class.CloseParenthesis && (t class.OpenBrace && (t class.CloseBrace && (t class.Comma && (t class.Tilde && (t class.Plus && (t class.Minus && (t class.Star && (t class.Comparison && (t class.Equals && (t class.Reducing && (t class.Declares && (t class.Dots && (t class.Name && (t class.Number && (t class.Widest && (t class.Unknown && (t class.End))))))))))))))))))))))))))))) (both (t class.Fill) (t class.Shape && (t class.Loop && (t class.If && (t class.Let && (t class.Turn && (t class.Protocol && (t class.Call && (t class.Store && (t class.Element && (t class.OpenBracket && (t class.CloseBracket && (t class.OpenParenthesis && (t class.CloseParenthesis && (t class.OpenBrace && (t class.CloseBrace && (t class.Comma && (t class.Tilde && (t class.Plus && (t class.Minus && (t class.Star && (t class.Comparison && (t class.Equals && (t class.Reducing && (t class.Declares && (t class.Dots && (t class.Name && (t class.Number && (t class.Widest && (t class.Unknown && (t class.End)))))))))))))))))))))))))))))) (both (t class.OutOrTmp) (t class.Fill && (t class.Shape && (t class.Loop && (t class.If && (t class.Let && (t class.Turn && (t class.Protocol && (t class.Call && (t class.Store && (t class.Element && (t class.OpenBracket && (t class.CloseBracket && (t class.OpenParenthesis && (t class.CloseParenthesis && (t class.OpenBrace && (t class.CloseBrace && (t class.Comma && (t class.Tilde && (t class.Plus && (t class.Minus && (t class.Star && (t class.Comparison && (t class.Equals && (t class.Reducing && (t class.Declares && (t class.Dots && (t class.Name && (t class.Number && (t class.Widest && (t class.Unknown && (t class.End))))))))))))))))))))))))))))))) (both (t class.In) (t class.OutOrTmp && (t class.Fill && (t class.Shape && (t class.Loop && (t class.If && (t class.Let && (t class.Turn && (t class.Protocol && (t class.Call && (t class.Store && (t class.Element && (t class.OpenBracket && (t class.CloseBracket && (t class.OpenParenthesis && (t class.CloseParenthesis && (t class.OpenBrace && (t class.CloseBrace && (t class.Comma && (t class.Tilde && (t class.Plus && (t class.Minus && (t class.Star && (t class.Comparison && (t class.Equals && (t class.Reducing && (t class.Declares && (t class.Dots && (t class.Name && (t class.Number && (t class.Widest && (t class.Unknown && (t class.End)))))))))))))))))))))))))))))))) h).1).1).1).1).1).1).1).1).1).1).1).1).1).1).1).1).1).1).1).1).1).0
+at_each t h class.Star = (both (t class.Star) (t class.Comparison && (t class.Equals && (t class.Reducing && (t class.Declares && (t class.Dots && (t class.Name && (t class.Number && (t class.Widest && (t class.Unknown && (t class.End)))))))))) (both (t class.Minus) (t class.Star && (t class.Comparison && (t class.Equals && (t class.Reducing && (t class.Declares && (t class.Dots && (t class.Name && (t class.Number && (t class.Widest && (t class.Unknown && (t class.End))))))))))) (both (t class.Plus) (t class.Minus && (t class.Star && (t class.Comparison && (t class.Equals && (t class.Reducing && (t class.Declares && (t class.Dots && (t class.Name && (t class.Number && (t class.Widest && (t class.Unknown && (t class.End)))))))))))) (both (t class.Tilde) (t class.Plus && (t class.Minus && (t class.Star && (t class.Comparison && (t class.Equals && (t class.Reducing && (t class.Declares && (t class.Dots && (t class.Name && (t class.Number && (t class.Widest && (t class.Unknown && (t class.End))))))))))))) (both (t class.Comma) (t class.Tilde && (t class.Plus && (t class.Minus && (t class.Star && (t class.Comparison && (t class.Equals && (t class.Reducing && (t class.Declares && (t class.Dots && (t class.Name && (t class.Number && (t class.Widest && (t class.Unknown && (t class.End)))))))))))))) (both (t class.CloseBrace) (t class.Comma && (t class.Tilde && (t class.Plus && (t class.Minus && (t class.Star && (t class.Comparison && (t class.Equals && (t class.Reducing && (t class.Declares && (t class.Dots && (t class.Name && (t class.Number && (t class.Widest && (t class.Unknown && (t class.End))))))))))))))) (both (t class.OpenBrace) (t class.CloseBrace && (t class.Comma && (t class.Tilde && (t class.Plus && (t class.Minus && (t class.Star && (t class.Comparison && (t class.Equals && (t class.Reducing && (t class.Declares && (t class.Dots && (t class.Name && (t class.Number && (t class.Widest && (t class.Unknown && (t class.End)))))))))))))))) (both (t class.CloseParenthesis) (t class.OpenBrace && (t class.CloseBrace && (t class.Comma && (t class.Tilde && (t class.Plus && (t class.Minus && (t class.Star && (t class.Comparison && (t class.Equals && (t class.Reducing && (t class.Declares && (t class.Dots && (t class.Name && (t class.Number && (t class.Widest && (t class.Unknown && (t class.End))))))))))))))))) (both (t class.OpenParenthesis) (t class.CloseParenthesis && (t class.OpenBrace && (t class.CloseBrace && (t class.Comma && (t class.Tilde && (t class.Plus && (t class.Minus && (t class.Star && (t class.Comparison && (t class.Equals && (t class.Reducing && (t class.Declares && (t class.Dots && (t class.Name && (t class.Number && (t class.Widest && (t class.Unknown && (t class.End)))))))))))))))))) (both (t class.CloseBracket) (t class.OpenParenthesis && (t class.CloseParenthesis && (t class.OpenBrace && (t class.CloseBrace && (t class.Comma && (t class.Tilde && (t class.Plus && (t class.Minus && (t class.Star && (t class.Comparison && (t class.Equals && (t class.Reducing && (t class.Declares && (t class.Dots && (t class.Name && (t class.Number && (t class.Widest && (t class.Unknown && (t class.End))))))))))))))))))) (both (t class.OpenBracket) (t class.CloseBracket && (t class.OpenParenthesis && (t class.CloseParenthesis && (t class.OpenBrace && (t class.CloseBrace && (t class.Comma && (t class.Tilde && (t class.Plus && (t class.Minus && (t class.Star && (t class.Comparison && (t class.Equals && (t class.Reducing && (t class.Declares && (t class.Dots && (t class.Name && (t class.Number && (t class.Widest && (t class.Unknown && (t class.End)))))))))))))))))))) (both (t class.Element) (t class.OpenBracket && (t class.CloseBracket && (t class.OpenParenthesis && (t class.CloseParenthesis && (t class.OpenBrace && (t class.CloseBrace && (t class.Comma && (t class.Tilde && (t class.Plus && (t class.Minus && (t class.Star && (t class.Comparison && (t class.Equals && (t class.Reducing && (t class.Declares && (t class.Dots && (t class.Name && (t class.Number && (t class.Widest && (t class.Unknown && (t class.End))))))))))))))))))))) (both (t class.Store) (t class.Element && (t class.OpenBracket && (t class.CloseBracket && (t class.OpenParenthesis && (t class.CloseParenthesis && (t class.OpenBrace && (t class.CloseBrace && (t class.Comma && (t class.Tilde && (t class.Plus && (t class.Minus && (t class.Star && (t class.Comparison && (t class.Equals && (t class.Reducing && (t class.Declares && (t class.Dots && (t class.Name && (t class.Number && (t class.Widest && (t class.Unknown && (t class.End)))))))))))))))))))))) (both (t class.Call) (t class.Store && (t class.Element && (t class.OpenBracket && (t class.CloseBracket && (t class.OpenParenthesis && (t class.CloseParenthesis && (t class.OpenBrace && (t class.CloseBrace && (t class.Comma && (t class.Tilde && (t class.Plus && (t class.Minus && (t class.Star && (t class.Comparison && (t class.Equals && (t class.Reducing && (t class.Declares && (t class.Dots && (t class.Name && (t class.Number && (t class.Widest && (t class.Unknown && (t class.End))))))))))))))))))))))) (both (t class.Protocol) (t class.Call && (t class.Store && (t class.Element && (t class.OpenBracket && (t class.CloseBracket && (t class.OpenParenthesis && (t class.CloseParenthesis && (t class.OpenBrace && (t class.CloseBrace && (t class.Comma && (t class.Tilde && (t class.Plus && (t class.Minus && (t class.Star && (t class.Comparison && (t class.Equals && (t class.Reducing && (t class.Declares && (t class.Dots && (t class.Name && (t class.Number && (t class.Widest && (t class.Unknown && (t class.End)))))))))))))))))))))))) (both (t class.Turn) (t class.Protocol && (t class.Call && (t class.Store && (t class.Element && (t class.OpenBracket && (t class.CloseBracket && (t class.OpenParenthesis && (t class.CloseParenthesis && (t class.OpenBrace && (t class.CloseBrace && (t class.Comma && (t class.Tilde && (t class.Plus && (t class.Minus && (t class.Star && (t class.Comparison && (t class.Equals && (t class.Reducing && (t class.Declares && (t class.Dots && (t class.Name && (t class.Number && (t class.Widest && (t class.Unknown && (t class.End))))))))))))))))))))))))) (both (t class.Let) (t class.Turn && (t class.Protocol && (t class.Call && (t class.Store && (t class.Element && (t class.OpenBracket && (t class.CloseBracket && (t class.OpenParenthesis && (t class.CloseParenthesis && (t class.OpenBrace && (t class.CloseBrace && (t class.Comma && (t class.Tilde && (t class.Plus && (t class.Minus && (t class.Star && (t class.Comparison && (t class.Equals && (t class.Reducing && (t class.Declares && (t class.Dots && (t class.Name && (t class.Number && (t class.Widest && (t class.Unknown && (t class.End)))))))))))))))))))))))))) (both (t class.If) (t class.Let && (t class.Turn && (t class.Protocol && (t class.Call && (t class.Store && (t class.Element && (t class.OpenBracket && (t class.CloseBracket && (t class.OpenParenthesis && (t class.CloseParenthesis && (t class.OpenBrace && (t class.CloseBrace && (t class.Comma && (t class.Tilde && (t class.Plus && (t class.Minus && (t class.Star && (t class.Comparison && (t class.Equals && (t class.Reducing && (t class.Declares && (t class.Dots && (t class.Name && (t class.Number && (t class.Widest && (t class.Unknown && (t class.End))))))))))))))))))))))))))) (both (t class.Loop) (t class.If && (t class.Let && (t class.Turn && (t class.Protocol && (t class.Call && (t class.Store && (t class.Element && (t class.OpenBracket && (t class.CloseBracket && (t class.OpenParenthesis && (t class.CloseParenthesis && (t class.OpenBrace && (t class.CloseBrace && (t class.Comma && (t class.Tilde && (t class.Plus && (t class.Minus && (t class.Star && (t class.Comparison && (t class.Equals && (t class.Reducing && (t class.Declares && (t class.Dots && (t class.Name && (t class.Number && (t class.Widest && (t class.Unknown && (t class.End)))))))))))))))))))))))))))) (both (t class.Shape) (t class.Loop && (t class.If && (t class.Let && (t class.Turn && (t class.Protocol && (t class.Call && (t class.Store && (t class.Element && (t class.OpenBracket && (t class.CloseBracket && (t class.OpenParenthesis && (t class.CloseParenthesis && (t class.OpenBrace && (t class.CloseBrace && (t class.Comma && (t class.Tilde && (t class.Plus && (t class.Minus && (t class.Star && (t class.Comparison && (t class.Equals && (t class.Reducing && (t class.Declares && (t class.Dots && (t class.Name && (t class.Number && (t class.Widest && (t class.Unknown && (t class.End))))))))))))))))))))))))))))) (both (t class.Fill) (t class.Shape && (t class.Loop && (t class.If && (t class.Let && (t class.Turn && (t class.Protocol && (t class.Call && (t class.Store && (t class.Element && (t class.OpenBracket && (t class.CloseBracket && (t class.OpenParenthesis && (t class.CloseParenthesis && (t class.OpenBrace && (t class.CloseBrace && (t class.Comma && (t class.Tilde && (t class.Plus && (t class.Minus && (t class.Star && (t class.Comparison && (t class.Equals && (t class.Reducing && (t class.Declares && (t class.Dots && (t class.Name && (t class.Number && (t class.Widest && (t class.Unknown && (t class.End)))))))))))))))))))))))))))))) (both (t class.OutOrTmp) (t class.Fill && (t class.Shape && (t class.Loop && (t class.If && (t class.Let && (t class.Turn && (t class.Protocol && (t class.Call && (t class.Store && (t class.Element && (t class.OpenBracket && (t class.CloseBracket && (t class.OpenParenthesis && (t class.CloseParenthesis && (t class.OpenBrace && (t class.CloseBrace && (t class.Comma && (t class.Tilde && (t class.Plus && (t class.Minus && (t class.Star && (t class.Comparison && (t class.Equals && (t class.Reducing && (t class.Declares && (t class.Dots && (t class.Name && (t class.Number && (t class.Widest && (t class.Unknown && (t class.End))))))))))))))))))))))))))))))) (both (t class.In) (t class.OutOrTmp && (t class.Fill && (t class.Shape && (t class.Loop && (t class.If && (t class.Let && (t class.Turn && (t class.Protocol && (t class.Call && (t class.Store && (t class.Element && (t class.OpenBracket && (t class.CloseBracket && (t class.OpenParenthesis && (t class.CloseParenthesis && (t class.OpenBrace && (t class.CloseBrace && (t class.Comma && (t class.Tilde && (t class.Plus && (t class.Minus && (t class.Star && (t class.Comparison && (t class.Equals && (t class.Reducing && (t class.Declares && (t class.Dots && (t class.Name && (t class.Number && (t class.Widest && (t class.Unknown && (t class.End)))))))))))))))))))))))))))))))) h).1).1).1).1).1).1).1).1).1).1).1).1).1).1).1).1).1).1).1).1).1).1).0
+at_each t h class.Comparison = (both (t class.Comparison) (t class.Equals && (t class.Reducing && (t class.Declares && (t class.Dots && (t class.Name && (t class.Number && (t class.Widest && (t class.Unknown && (t class.End))))))))) (both (t class.Star) (t class.Comparison && (t class.Equals && (t class.Reducing && (t class.Declares && (t class.Dots && (t class.Name && (t class.Number && (t class.Widest && (t class.Unknown && (t class.End)))))))))) (both (t class.Minus) (t class.Star && (t class.Comparison && (t class.Equals && (t class.Reducing && (t class.Declares && (t class.Dots && (t class.Name && (t class.Number && (t class.Widest && (t class.Unknown && (t class.End))))))))))) (both (t class.Plus) (t class.Minus && (t class.Star && (t class.Comparison && (t class.Equals && (t class.Reducing && (t class.Declares && (t class.Dots && (t class.Name && (t class.Number && (t class.Widest && (t class.Unknown && (t class.End)))))))))))) (both (t class.Tilde) (t class.Plus && (t class.Minus && (t class.Star && (t class.Comparison && (t class.Equals && (t class.Reducing && (t class.Declares && (t class.Dots && (t class.Name && (t class.Number && (t class.Widest && (t class.Unknown && (t class.End))))))))))))) (both (t class.Comma) (t class.Tilde && (t class.Plus && (t class.Minus && (t class.Star && (t class.Comparison && (t class.Equals && (t class.Reducing && (t class.Declares && (t class.Dots && (t class.Name && (t class.Number && (t class.Widest && (t class.Unknown && (t class.End)))))))))))))) (both (t class.CloseBrace) (t class.Comma && (t class.Tilde && (t class.Plus && (t class.Minus && (t class.Star && (t class.Comparison && (t class.Equals && (t class.Reducing && (t class.Declares && (t class.Dots && (t class.Name && (t class.Number && (t class.Widest && (t class.Unknown && (t class.End))))))))))))))) (both (t class.OpenBrace) (t class.CloseBrace && (t class.Comma && (t class.Tilde && (t class.Plus && (t class.Minus && (t class.Star && (t class.Comparison && (t class.Equals && (t class.Reducing && (t class.Declares && (t class.Dots && (t class.Name && (t class.Number && (t class.Widest && (t class.Unknown && (t class.End)))))))))))))))) (both (t class.CloseParenthesis) (t class.OpenBrace && (t class.CloseBrace && (t class.Comma && (t class.Tilde && (t class.Plus && (t class.Minus && (t class.Star && (t class.Comparison && (t class.Equals && (t class.Reducing && (t class.Declares && (t class.Dots && (t class.Name && (t class.Number && (t class.Widest && (t class.Unknown && (t class.End))))))))))))))))) (both (t class.OpenParenthesis) (t class.CloseParenthesis && (t class.OpenBrace && (t class.CloseBrace && (t class.Comma && (t class.Tilde && (t class.Plus && (t class.Minus && (t class.Star && (t class.Comparison && (t class.Equals && (t class.Reducing && (t class.Declares && (t class.Dots && (t class.Name && (t class.Number && (t class.Widest && (t class.Unknown && (t class.End)))))))))))))))))) (both (t class.CloseBracket) (t class.OpenParenthesis && (t class.CloseParenthesis && (t class.OpenBrace && (t class.CloseBrace && (t class.Comma && (t class.Tilde && (t class.Plus && (t class.Minus && (t class.Star && (t class.Comparison && (t class.Equals && (t class.Reducing && (t class.Declares && (t class.Dots && (t class.Name && (t class.Number && (t class.Widest && (t class.Unknown && (t class.End))))))))))))))))))) (both (t class.OpenBracket) (t class.CloseBracket && (t class.OpenParenthesis && (t class.CloseParenthesis && (t class.OpenBrace && (t class.CloseBrace && (t class.Comma && (t class.Tilde && (t class.Plus && (t class.Minus && (t class.Star && (t class.Comparison && (t class.Equals && (t class.Reducing && (t class.Declares && (t class.Dots && (t class.Name && (t class.Number && (t class.Widest && (t class.Unknown && (t class.End)))))))))))))))))))) (both (t class.Element) (t class.OpenBracket && (t class.CloseBracket && (t class.OpenParenthesis && (t class.CloseParenthesis && (t class.OpenBrace && (t class.CloseBrace && (t class.Comma && (t class.Tilde && (t class.Plus && (t class.Minus && (t class.Star && (t class.Comparison && (t class.Equals && (t class.Reducing && (t class.Declares && (t class.Dots && (t class.Name && (t class.Number && (t class.Widest && (t class.Unknown && (t class.End))))))))))))))))))))) (both (t class.Store) (t class.Element && (t class.OpenBracket && (t class.CloseBracket && (t class.OpenParenthesis && (t class.CloseParenthesis && (t class.OpenBrace && (t class.CloseBrace && (t class.Comma && (t class.Tilde && (t class.Plus && (t class.Minus && (t class.Star && (t class.Comparison && (t class.Equals && (t class.Reducing && (t class.Declares && (t class.Dots && (t class.Name && (t class.Number && (t class.Widest && (t class.Unknown && (t class.End)))))))))))))))))))))) (both (t class.Call) (t class.Store && (t class.Element && (t class.OpenBracket && (t class.CloseBracket && (t class.OpenParenthesis && (t class.CloseParenthesis && (t class.OpenBrace && (t class.CloseBrace && (t class.Comma && (t class.Tilde && (t class.Plus && (t class.Minus && (t class.Star && (t class.Comparison && (t class.Equals && (t class.Reducing && (t class.Declares && (t class.Dots && (t class.Name && (t class.Number && (t class.Widest && (t class.Unknown && (t class.End))))))))))))))))))))))) (both (t class.Protocol) (t class.Call && (t class.Store && (t class.Element && (t class.OpenBracket && (t class.CloseBracket && (t class.OpenParenthesis && (t class.CloseParenthesis && (t class.OpenBrace && (t class.CloseBrace && (t class.Comma && (t class.Tilde && (t class.Plus && (t class.Minus && (t class.Star && (t class.Comparison && (t class.Equals && (t class.Reducing && (t class.Declares && (t class.Dots && (t class.Name && (t class.Number && (t class.Widest && (t class.Unknown && (t class.End)))))))))))))))))))))))) (both (t class.Turn) (t class.Protocol && (t class.Call && (t class.Store && (t class.Element && (t class.OpenBracket && (t class.CloseBracket && (t class.OpenParenthesis && (t class.CloseParenthesis && (t class.OpenBrace && (t class.CloseBrace && (t class.Comma && (t class.Tilde && (t class.Plus && (t class.Minus && (t class.Star && (t class.Comparison && (t class.Equals && (t class.Reducing && (t class.Declares && (t class.Dots && (t class.Name && (t class.Number && (t class.Widest && (t class.Unknown && (t class.End))))))))))))))))))))))))) (both (t class.Let) (t class.Turn && (t class.Protocol && (t class.Call && (t class.Store && (t class.Element && (t class.OpenBracket && (t class.CloseBracket && (t class.OpenParenthesis && (t class.CloseParenthesis && (t class.OpenBrace && (t class.CloseBrace && (t class.Comma && (t class.Tilde && (t class.Plus && (t class.Minus && (t class.Star && (t class.Comparison && (t class.Equals && (t class.Reducing && (t class.Declares && (t class.Dots && (t class.Name && (t class.Number && (t class.Widest && (t class.Unknown && (t class.End)))))))))))))))))))))))))) (both (t class.If) (t class.Let && (t class.Turn && (t class.Protocol && (t class.Call && (t class.Store && (t class.Element && (t class.OpenBracket && (t class.CloseBracket && (t class.OpenParenthesis && (t class.CloseParenthesis && (t class.OpenBrace && (t class.CloseBrace && (t class.Comma && (t class.Tilde && (t class.Plus && (t class.Minus && (t class.Star && (t class.Comparison && (t class.Equals && (t class.Reducing && (t class.Declares && (t class.Dots && (t class.Name && (t class.Number && (t class.Widest && (t class.Unknown && (t class.End))))))))))))))))))))))))))) (both (t class.Loop) (t class.If && (t class.Let && (t class.Turn && (t class.Protocol && (t class.Call && (t class.Store && (t class.Element && (t class.OpenBracket && (t class.CloseBracket && (t class.OpenParenthesis && (t class.CloseParenthesis && (t class.OpenBrace && (t class.CloseBrace && (t class.Comma && (t class.Tilde && (t class.Plus && (t class.Minus && (t class.Star && (t class.Comparison && (t class.Equals && (t class.Reducing && (t class.Declares && (t class.Dots && (t class.Name && (t class.Number && (t class.Widest && (t class.Unknown && (t class.End)))))))))))))))))))))))))))) (both (t class.Shape) (t class.Loop && (t class.If && (t class.Let && (t class.Turn && (t class.Protocol && (t class.Call && (t class.Store && (t class.Element && (t class.OpenBracket && (t class.CloseBracket && (t class.OpenParenthesis && (t class.CloseParenthesis && (t class.OpenBrace && (t class.CloseBrace && (t class.Comma && (t class.Tilde && (t class.Plus && (t class.Minus && (t class.Star && (t class.Comparison && (t class.Equals && (t class.Reducing && (t class.Declares && (t class.Dots && (t class.Name && (t class.Number && (t class.Widest && (t class.Unknown && (t class.End))))))))))))))))))))))))))))) (both (t class.Fill) (t class.Shape && (t class.Loop && (t class.If && (t class.Let && (t class.Turn && (t class.Protocol && (t class.Call && (t class.Store && (t class.Element && (t class.OpenBracket && (t class.CloseBracket && (t class.OpenParenthesis && (t class.CloseParenthesis && (t class.OpenBrace && (t class.CloseBrace && (t class.Comma && (t class.Tilde && (t class.Plus && (t class.Minus && (t class.Star && (t class.Comparison && (t class.Equals && (t class.Reducing && (t class.Declares && (t class.Dots && (t class.Name && (t class.Number && (t class.Widest && (t class.Unknown && (t class.End)))))))))))))))))))))))))))))) (both (t class.OutOrTmp) (t class.Fill && (t class.Shape && (t class.Loop && (t class.If && (t class.Let && (t class.Turn && (t class.Protocol && (t class.Call && (t class.Store && (t class.Element && (t class.OpenBracket && (t class.CloseBracket && (t class.OpenParenthesis && (t class.CloseParenthesis && (t class.OpenBrace && (t class.CloseBrace && (t class.Comma && (t class.Tilde && (t class.Plus && (t class.Minus && (t class.Star && (t class.Comparison && (t class.Equals && (t class.Reducing && (t class.Declares && (t class.Dots && (t class.Name && (t class.Number && (t class.Widest && (t class.Unknown && (t class.End))))))))))))))))))))))))))))))) (both (t class.In) (t class.OutOrTmp && (t class.Fill && (t class.Shape && (t class.Loop && (t class.If && (t class.Let && (t class.Turn && (t class.Protocol && (t class.Call && (t class.Store && (t class.Element && (t class.OpenBracket && (t class.CloseBracket && (t class.OpenParenthesis && (t class.CloseParenthesis && (t class.OpenBrace && (t class.CloseBrace && (t class.Comma && (t class.Tilde && (t class.Plus && (t class.Minus && (t class.Star && (t class.Comparison && (t class.Equals && (t class.Reducing && (t class.Declares && (t class.Dots && (t class.Name && (t class.Number && (t class.Widest && (t class.Unknown && (t class.End)))))))))))))))))))))))))))))))) h).1).1).1).1).1).1).1).1).1).1).1).1).1).1).1).1).1).1).1).1).1).1).1).0
+at_each t h class.Equals = (both (t class.Equals) (t class.Reducing && (t class.Declares && (t class.Dots && (t class.Name && (t class.Number && (t class.Widest && (t class.Unknown && (t class.End)))))))) (both (t class.Comparison) (t class.Equals && (t class.Reducing && (t class.Declares && (t class.Dots && (t class.Name && (t class.Number && (t class.Widest && (t class.Unknown && (t class.End))))))))) (both (t class.Star) (t class.Comparison && (t class.Equals && (t class.Reducing && (t class.Declares && (t class.Dots && (t class.Name && (t class.Number && (t class.Widest && (t class.Unknown && (t class.End)))))))))) (both (t class.Minus) (t class.Star && (t class.Comparison && (t class.Equals && (t class.Reducing && (t class.Declares && (t class.Dots && (t class.Name && (t class.Number && (t class.Widest && (t class.Unknown && (t class.End))))))))))) (both (t class.Plus) (t class.Minus && (t class.Star && (t class.Comparison && (t class.Equals && (t class.Reducing && (t class.Declares && (t class.Dots && (t class.Name && (t class.Number && (t class.Widest && (t class.Unknown && (t class.End)))))))))))) (both (t class.Tilde) (t class.Plus && (t class.Minus && (t class.Star && (t class.Comparison && (t class.Equals && (t class.Reducing && (t class.Declares && (t class.Dots && (t class.Name && (t class.Number && (t class.Widest && (t class.Unknown && (t class.End))))))))))))) (both (t class.Comma) (t class.Tilde && (t class.Plus && (t class.Minus && (t class.Star && (t class.Comparison && (t class.Equals && (t class.Reducing && (t class.Declares && (t class.Dots && (t class.Name && (t class.Number && (t class.Widest && (t class.Unknown && (t class.End)))))))))))))) (both (t class.CloseBrace) (t class.Comma && (t class.Tilde && (t class.Plus && (t class.Minus && (t class.Star && (t class.Comparison && (t class.Equals && (t class.Reducing && (t class.Declares && (t class.Dots && (t class.Name && (t class.Number && (t class.Widest && (t class.Unknown && (t class.End))))))))))))))) (both (t class.OpenBrace) (t class.CloseBrace && (t class.Comma && (t class.Tilde && (t class.Plus && (t class.Minus && (t class.Star && (t class.Comparison && (t class.Equals && (t class.Reducing && (t class.Declares && (t class.Dots && (t class.Name && (t class.Number && (t class.Widest && (t class.Unknown && (t class.End)))))))))))))))) (both (t class.CloseParenthesis) (t class.OpenBrace && (t class.CloseBrace && (t class.Comma && (t class.Tilde && (t class.Plus && (t class.Minus && (t class.Star && (t class.Comparison && (t class.Equals && (t class.Reducing && (t class.Declares && (t class.Dots && (t class.Name && (t class.Number && (t class.Widest && (t class.Unknown && (t class.End))))))))))))))))) (both (t class.OpenParenthesis) (t class.CloseParenthesis && (t class.OpenBrace && (t class.CloseBrace && (t class.Comma && (t class.Tilde && (t class.Plus && (t class.Minus && (t class.Star && (t class.Comparison && (t class.Equals && (t class.Reducing && (t class.Declares && (t class.Dots && (t class.Name && (t class.Number && (t class.Widest && (t class.Unknown && (t class.End)))))))))))))))))) (both (t class.CloseBracket) (t class.OpenParenthesis && (t class.CloseParenthesis && (t class.OpenBrace && (t class.CloseBrace && (t class.Comma && (t class.Tilde && (t class.Plus && (t class.Minus && (t class.Star && (t class.Comparison && (t class.Equals && (t class.Reducing && (t class.Declares && (t class.Dots && (t class.Name && (t class.Number && (t class.Widest && (t class.Unknown && (t class.End))))))))))))))))))) (both (t class.OpenBracket) (t class.CloseBracket && (t class.OpenParenthesis && (t class.CloseParenthesis && (t class.OpenBrace && (t class.CloseBrace && (t class.Comma && (t class.Tilde && (t class.Plus && (t class.Minus && (t class.Star && (t class.Comparison && (t class.Equals && (t class.Reducing && (t class.Declares && (t class.Dots && (t class.Name && (t class.Number && (t class.Widest && (t class.Unknown && (t class.End)))))))))))))))))))) (both (t class.Element) (t class.OpenBracket && (t class.CloseBracket && (t class.OpenParenthesis && (t class.CloseParenthesis && (t class.OpenBrace && (t class.CloseBrace && (t class.Comma && (t class.Tilde && (t class.Plus && (t class.Minus && (t class.Star && (t class.Comparison && (t class.Equals && (t class.Reducing && (t class.Declares && (t class.Dots && (t class.Name && (t class.Number && (t class.Widest && (t class.Unknown && (t class.End))))))))))))))))))))) (both (t class.Store) (t class.Element && (t class.OpenBracket && (t class.CloseBracket && (t class.OpenParenthesis && (t class.CloseParenthesis && (t class.OpenBrace && (t class.CloseBrace && (t class.Comma && (t class.Tilde && (t class.Plus && (t class.Minus && (t class.Star && (t class.Comparison && (t class.Equals && (t class.Reducing && (t class.Declares && (t class.Dots && (t class.Name && (t class.Number && (t class.Widest && (t class.Unknown && (t class.End)))))))))))))))))))))) (both (t class.Call) (t class.Store && (t class.Element && (t class.OpenBracket && (t class.CloseBracket && (t class.OpenParenthesis && (t class.CloseParenthesis && (t class.OpenBrace && (t class.CloseBrace && (t class.Comma && (t class.Tilde && (t class.Plus && (t class.Minus && (t class.Star && (t class.Comparison && (t class.Equals && (t class.Reducing && (t class.Declares && (t class.Dots && (t class.Name && (t class.Number && (t class.Widest && (t class.Unknown && (t class.End))))))))))))))))))))))) (both (t class.Protocol) (t class.Call && (t class.Store && (t class.Element && (t class.OpenBracket && (t class.CloseBracket && (t class.OpenParenthesis && (t class.CloseParenthesis && (t class.OpenBrace && (t class.CloseBrace && (t class.Comma && (t class.Tilde && (t class.Plus && (t class.Minus && (t class.Star && (t class.Comparison && (t class.Equals && (t class.Reducing && (t class.Declares && (t class.Dots && (t class.Name && (t class.Number && (t class.Widest && (t class.Unknown && (t class.End)))))))))))))))))))))))) (both (t class.Turn) (t class.Protocol && (t class.Call && (t class.Store && (t class.Element && (t class.OpenBracket && (t class.CloseBracket && (t class.OpenParenthesis && (t class.CloseParenthesis && (t class.OpenBrace && (t class.CloseBrace && (t class.Comma && (t class.Tilde && (t class.Plus && (t class.Minus && (t class.Star && (t class.Comparison && (t class.Equals && (t class.Reducing && (t class.Declares && (t class.Dots && (t class.Name && (t class.Number && (t class.Widest && (t class.Unknown && (t class.End))))))))))))))))))))))))) (both (t class.Let) (t class.Turn && (t class.Protocol && (t class.Call && (t class.Store && (t class.Element && (t class.OpenBracket && (t class.CloseBracket && (t class.OpenParenthesis && (t class.CloseParenthesis && (t class.OpenBrace && (t class.CloseBrace && (t class.Comma && (t class.Tilde && (t class.Plus && (t class.Minus && (t class.Star && (t class.Comparison && (t class.Equals && (t class.Reducing && (t class.Declares && (t class.Dots && (t class.Name && (t class.Number && (t class.Widest && (t class.Unknown && (t class.End)))))))))))))))))))))))))) (both (t class.If) (t class.Let && (t class.Turn && (t class.Protocol && (t class.Call && (t class.Store && (t class.Element && (t class.OpenBracket && (t class.CloseBracket && (t class.OpenParenthesis && (t class.CloseParenthesis && (t class.OpenBrace && (t class.CloseBrace && (t class.Comma && (t class.Tilde && (t class.Plus && (t class.Minus && (t class.Star && (t class.Comparison && (t class.Equals && (t class.Reducing && (t class.Declares && (t class.Dots && (t class.Name && (t class.Number && (t class.Widest && (t class.Unknown && (t class.End))))))))))))))))))))))))))) (both (t class.Loop) (t class.If && (t class.Let && (t class.Turn && (t class.Protocol && (t class.Call && (t class.Store && (t class.Element && (t class.OpenBracket && (t class.CloseBracket && (t class.OpenParenthesis && (t class.CloseParenthesis && (t class.OpenBrace && (t class.CloseBrace && (t class.Comma && (t class.Tilde && (t class.Plus && (t class.Minus && (t class.Star && (t class.Comparison && (t class.Equals && (t class.Reducing && (t class.Declares && (t class.Dots && (t class.Name && (t class.Number && (t class.Widest && (t class.Unknown && (t class.End)))))))))))))))))))))))))))) (both (t class.Shape) (t class.Loop && (t class.If && (t class.Let && (t class.Turn && (t class.Protocol && (t class.Call && (t class.Store && (t class.Element && (t class.OpenBracket && (t class.CloseBracket && (t class.OpenParenthesis && (t class.CloseParenthesis && (t class.OpenBrace && (t class.CloseBrace && (t class.Comma && (t class.Tilde && (t class.Plus && (t class.Minus && (t class.Star && (t class.Comparison && (t class.Equals && (t class.Reducing && (t class.Declares && (t class.Dots && (t class.Name && (t class.Number && (t class.Widest && (t class.Unknown && (t class.End))))))))))))))))))))))))))))) (both (t class.Fill) (t class.Shape && (t class.Loop && (t class.If && (t class.Let && (t class.Turn && (t class.Protocol && (t class.Call && (t class.Store && (t class.Element && (t class.OpenBracket && (t class.CloseBracket && (t class.OpenParenthesis && (t class.CloseParenthesis && (t class.OpenBrace && (t class.CloseBrace && (t class.Comma && (t class.Tilde && (t class.Plus && (t class.Minus && (t class.Star && (t class.Comparison && (t class.Equals && (t class.Reducing && (t class.Declares && (t class.Dots && (t class.Name && (t class.Number && (t class.Widest && (t class.Unknown && (t class.End)))))))))))))))))))))))))))))) (both (t class.OutOrTmp) (t class.Fill && (t class.Shape && (t class.Loop && (t class.If && (t class.Let && (t class.Turn && (t class.Protocol && (t class.Call && (t class.Store && (t class.Element && (t class.OpenBracket && (t class.CloseBracket && (t class.OpenParenthesis && (t class.CloseParenthesis && (t class.OpenBrace && (t class.CloseBrace && (t class.Comma && (t class.Tilde && (t class.Plus && (t class.Minus && (t class.Star && (t class.Comparison && (t class.Equals && (t class.Reducing && (t class.Declares && (t class.Dots && (t class.Name && (t class.Number && (t class.Widest && (t class.Unknown && (t class.End))))))))))))))))))))))))))))))) (both (t class.In) (t class.OutOrTmp && (t class.Fill && (t class.Shape && (t class.Loop && (t class.If && (t class.Let && (t class.Turn && (t class.Protocol && (t class.Call && (t class.Store && (t class.Element && (t class.OpenBracket && (t class.CloseBracket && (t class.OpenParenthesis && (t class.CloseParenthesis && (t class.OpenBrace && (t class.CloseBrace && (t class.Comma && (t class.Tilde && (t class.Plus && (t class.Minus && (t class.Star && (t class.Comparison && (t class.Equals && (t class.Reducing && (t class.Declares && (t class.Dots && (t class.Name && (t class.Number && (t class.Widest && (t class.Unknown && (t class.End)))))))))))))))))))))))))))))))) h).1).1).1).1).1).1).1).1).1).1).1).1).1).1).1).1).1).1).1).1).1).1).1).1).0
+at_each t h class.Reducing = (both (t class.Reducing) (t class.Declares && (t class.Dots && (t class.Name && (t class.Number && (t class.Widest && (t class.Unknown && (t class.End))))))) (both (t class.Equals) (t class.Reducing && (t class.Declares && (t class.Dots && (t class.Name && (t class.Number && (t class.Widest && (t class.Unknown && (t class.End)))))))) (both (t class.Comparison) (t class.Equals && (t class.Reducing && (t class.Declares && (t class.Dots && (t class.Name && (t class.Number && (t class.Widest && (t class.Unknown && (t class.End))))))))) (both (t class.Star) (t class.Comparison && (t class.Equals && (t class.Reducing && (t class.Declares && (t class.Dots && (t class.Name && (t class.Number && (t class.Widest && (t class.Unknown && (t class.End)))))))))) (both (t class.Minus) (t class.Star && (t class.Comparison && (t class.Equals && (t class.Reducing && (t class.Declares && (t class.Dots && (t class.Name && (t class.Number && (t class.Widest && (t class.Unknown && (t class.End))))))))))) (both (t class.Plus) (t class.Minus && (t class.Star && (t class.Comparison && (t class.Equals && (t class.Reducing && (t class.Declares && (t class.Dots && (t class.Name && (t class.Number && (t class.Widest && (t class.Unknown && (t class.End)))))))))))) (both (t class.Tilde) (t class.Plus && (t class.Minus && (t class.Star && (t class.Comparison && (t class.Equals && (t class.Reducing && (t class.Declares && (t class.Dots && (t class.Name && (t class.Number && (t class.Widest && (t class.Unknown && (t class.End))))))))))))) (both (t class.Comma) (t class.Tilde && (t class.Plus && (t class.Minus && (t class.Star && (t class.Comparison && (t class.Equals && (t class.Reducing && (t class.Declares && (t class.Dots && (t class.Name && (t class.Number && (t class.Widest && (t class.Unknown && (t class.End)))))))))))))) (both (t class.CloseBrace) (t class.Comma && (t class.Tilde && (t class.Plus && (t class.Minus && (t class.Star && (t class.Comparison && (t class.Equals && (t class.Reducing && (t class.Declares && (t class.Dots && (t class.Name && (t class.Number && (t class.Widest && (t class.Unknown && (t class.End))))))))))))))) (both (t class.OpenBrace) (t class.CloseBrace && (t class.Comma && (t class.Tilde && (t class.Plus && (t class.Minus && (t class.Star && (t class.Comparison && (t class.Equals && (t class.Reducing && (t class.Declares && (t class.Dots && (t class.Name && (t class.Number && (t class.Widest && (t class.Unknown && (t class.End)))))))))))))))) (both (t class.CloseParenthesis) (t class.OpenBrace && (t class.CloseBrace && (t class.Comma && (t class.Tilde && (t class.Plus && (t class.Minus && (t class.Star && (t class.Comparison && (t class.Equals && (t class.Reducing && (t class.Declares && (t class.Dots && (t class.Name && (t class.Number && (t class.Widest && (t class.Unknown && (t class.End))))))))))))))))) (both (t class.OpenParenthesis) (t class.CloseParenthesis && (t class.OpenBrace && (t class.CloseBrace && (t class.Comma && (t class.Tilde && (t class.Plus && (t class.Minus && (t class.Star && (t class.Comparison && (t class.Equals && (t class.Reducing && (t class.Declares && (t class.Dots && (t class.Name && (t class.Number && (t class.Widest && (t class.Unknown && (t class.End)))))))))))))))))) (both (t class.CloseBracket) (t class.OpenParenthesis && (t class.CloseParenthesis && (t class.OpenBrace && (t class.CloseBrace && (t class.Comma && (t class.Tilde && (t class.Plus && (t class.Minus && (t class.Star && (t class.Comparison && (t class.Equals && (t class.Reducing && (t class.Declares && (t class.Dots && (t class.Name && (t class.Number && (t class.Widest && (t class.Unknown && (t class.End))))))))))))))))))) (both (t class.OpenBracket) (t class.CloseBracket && (t class.OpenParenthesis && (t class.CloseParenthesis && (t class.OpenBrace && (t class.CloseBrace && (t class.Comma && (t class.Tilde && (t class.Plus && (t class.Minus && (t class.Star && (t class.Comparison && (t class.Equals && (t class.Reducing && (t class.Declares && (t class.Dots && (t class.Name && (t class.Number && (t class.Widest && (t class.Unknown && (t class.End)))))))))))))))))))) (both (t class.Element) (t class.OpenBracket && (t class.CloseBracket && (t class.OpenParenthesis && (t class.CloseParenthesis && (t class.OpenBrace && (t class.CloseBrace && (t class.Comma && (t class.Tilde && (t class.Plus && (t class.Minus && (t class.Star && (t class.Comparison && (t class.Equals && (t class.Reducing && (t class.Declares && (t class.Dots && (t class.Name && (t class.Number && (t class.Widest && (t class.Unknown && (t class.End))))))))))))))))))))) (both (t class.Store) (t class.Element && (t class.OpenBracket && (t class.CloseBracket && (t class.OpenParenthesis && (t class.CloseParenthesis && (t class.OpenBrace && (t class.CloseBrace && (t class.Comma && (t class.Tilde && (t class.Plus && (t class.Minus && (t class.Star && (t class.Comparison && (t class.Equals && (t class.Reducing && (t class.Declares && (t class.Dots && (t class.Name && (t class.Number && (t class.Widest && (t class.Unknown && (t class.End)))))))))))))))))))))) (both (t class.Call) (t class.Store && (t class.Element && (t class.OpenBracket && (t class.CloseBracket && (t class.OpenParenthesis && (t class.CloseParenthesis && (t class.OpenBrace && (t class.CloseBrace && (t class.Comma && (t class.Tilde && (t class.Plus && (t class.Minus && (t class.Star && (t class.Comparison && (t class.Equals && (t class.Reducing && (t class.Declares && (t class.Dots && (t class.Name && (t class.Number && (t class.Widest && (t class.Unknown && (t class.End))))))))))))))))))))))) (both (t class.Protocol) (t class.Call && (t class.Store && (t class.Element && (t class.OpenBracket && (t class.CloseBracket && (t class.OpenParenthesis && (t class.CloseParenthesis && (t class.OpenBrace && (t class.CloseBrace && (t class.Comma && (t class.Tilde && (t class.Plus && (t class.Minus && (t class.Star && (t class.Comparison && (t class.Equals && (t class.Reducing && (t class.Declares && (t class.Dots && (t class.Name && (t class.Number && (t class.Widest && (t class.Unknown && (t class.End)))))))))))))))))))))))) (both (t class.Turn) (t class.Protocol && (t class.Call && (t class.Store && (t class.Element && (t class.OpenBracket && (t class.CloseBracket && (t class.OpenParenthesis && (t class.CloseParenthesis && (t class.OpenBrace && (t class.CloseBrace && (t class.Comma && (t class.Tilde && (t class.Plus && (t class.Minus && (t class.Star && (t class.Comparison && (t class.Equals && (t class.Reducing && (t class.Declares && (t class.Dots && (t class.Name && (t class.Number && (t class.Widest && (t class.Unknown && (t class.End))))))))))))))))))))))))) (both (t class.Let) (t class.Turn && (t class.Protocol && (t class.Call && (t class.Store && (t class.Element && (t class.OpenBracket && (t class.CloseBracket && (t class.OpenParenthesis && (t class.CloseParenthesis && (t class.OpenBrace && (t class.CloseBrace && (t class.Comma && (t class.Tilde && (t class.Plus && (t class.Minus && (t class.Star && (t class.Comparison && (t class.Equals && (t class.Reducing && (t class.Declares && (t class.Dots && (t class.Name && (t class.Number && (t class.Widest && (t class.Unknown && (t class.End)))))))))))))))))))))))))) (both (t class.If) (t class.Let && (t class.Turn && (t class.Protocol && (t class.Call && (t class.Store && (t class.Element && (t class.OpenBracket && (t class.CloseBracket && (t class.OpenParenthesis && (t class.CloseParenthesis && (t class.OpenBrace && (t class.CloseBrace && (t class.Comma && (t class.Tilde && (t class.Plus && (t class.Minus && (t class.Star && (t class.Comparison && (t class.Equals && (t class.Reducing && (t class.Declares && (t class.Dots && (t class.Name && (t class.Number && (t class.Widest && (t class.Unknown && (t class.End))))))))))))))))))))))))))) (both (t class.Loop) (t class.If && (t class.Let && (t class.Turn && (t class.Protocol && (t class.Call && (t class.Store && (t class.Element && (t class.OpenBracket && (t class.CloseBracket && (t class.OpenParenthesis && (t class.CloseParenthesis && (t class.OpenBrace && (t class.CloseBrace && (t class.Comma && (t class.Tilde && (t class.Plus && (t class.Minus && (t class.Star && (t class.Comparison && (t class.Equals && (t class.Reducing && (t class.Declares && (t class.Dots && (t class.Name && (t class.Number && (t class.Widest && (t class.Unknown && (t class.End)))))))))))))))))))))))))))) (both (t class.Shape) (t class.Loop && (t class.If && (t class.Let && (t class.Turn && (t class.Protocol && (t class.Call && (t class.Store && (t class.Element && (t class.OpenBracket && (t class.CloseBracket && (t class.OpenParenthesis && (t class.CloseParenthesis && (t class.OpenBrace && (t class.CloseBrace && (t class.Comma && (t class.Tilde && (t class.Plus && (t class.Minus && (t class.Star && (t class.Comparison && (t class.Equals && (t class.Reducing && (t class.Declares && (t class.Dots && (t class.Name && (t class.Number && (t class.Widest && (t class.Unknown && (t class.End))))))))))))))))))))))))))))) (both (t class.Fill) (t class.Shape && (t class.Loop && (t class.If && (t class.Let && (t class.Turn && (t class.Protocol && (t class.Call && (t class.Store && (t class.Element && (t class.OpenBracket && (t class.CloseBracket && (t class.OpenParenthesis && (t class.CloseParenthesis && (t class.OpenBrace && (t class.CloseBrace && (t class.Comma && (t class.Tilde && (t class.Plus && (t class.Minus && (t class.Star && (t class.Comparison && (t class.Equals && (t class.Reducing && (t class.Declares && (t class.Dots && (t class.Name && (t class.Number && (t class.Widest && (t class.Unknown && (t class.End)))))))))))))))))))))))))))))) (both (t class.OutOrTmp) (t class.Fill && (t class.Shape && (t class.Loop && (t class.If && (t class.Let && (t class.Turn && (t class.Protocol && (t class.Call && (t class.Store && (t class.Element && (t class.OpenBracket && (t class.CloseBracket && (t class.OpenParenthesis && (t class.CloseParenthesis && (t class.OpenBrace && (t class.CloseBrace && (t class.Comma && (t class.Tilde && (t class.Plus && (t class.Minus && (t class.Star && (t class.Comparison && (t class.Equals && (t class.Reducing && (t class.Declares && (t class.Dots && (t class.Name && (t class.Number && (t class.Widest && (t class.Unknown && (t class.End))))))))))))))))))))))))))))))) (both (t class.In) (t class.OutOrTmp && (t class.Fill && (t class.Shape && (t class.Loop && (t class.If && (t class.Let && (t class.Turn && (t class.Protocol && (t class.Call && (t class.Store && (t class.Element && (t class.OpenBracket && (t class.CloseBracket && (t class.OpenParenthesis && (t class.CloseParenthesis && (t class.OpenBrace && (t class.CloseBrace && (t class.Comma && (t class.Tilde && (t class.Plus && (t class.Minus && (t class.Star && (t class.Comparison && (t class.Equals && (t class.Reducing && (t class.Declares && (t class.Dots && (t class.Name && (t class.Number && (t class.Widest && (t class.Unknown && (t class.End)))))))))))))))))))))))))))))))) h).1).1).1).1).1).1).1).1).1).1).1).1).1).1).1).1).1).1).1).1).1).1).1).1).1).0
+at_each t h class.Declares = (both (t class.Declares) (t class.Dots && (t class.Name && (t class.Number && (t class.Widest && (t class.Unknown && (t class.End)))))) (both (t class.Reducing) (t class.Declares && (t class.Dots && (t class.Name && (t class.Number && (t class.Widest && (t class.Unknown && (t class.End))))))) (both (t class.Equals) (t class.Reducing && (t class.Declares && (t class.Dots && (t class.Name && (t class.Number && (t class.Widest && (t class.Unknown && (t class.End)))))))) (both (t class.Comparison) (t class.Equals && (t class.Reducing && (t class.Declares && (t class.Dots && (t class.Name && (t class.Number && (t class.Widest && (t class.Unknown && (t class.End))))))))) (both (t class.Star) (t class.Comparison && (t class.Equals && (t class.Reducing && (t class.Declares && (t class.Dots && (t class.Name && (t class.Number && (t class.Widest && (t class.Unknown && (t class.End)))))))))) (both (t class.Minus) (t class.Star && (t class.Comparison && (t class.Equals && (t class.Reducing && (t class.Declares && (t class.Dots && (t class.Name && (t class.Number && (t class.Widest && (t class.Unknown && (t class.End))))))))))) (both (t class.Plus) (t class.Minus && (t class.Star && (t class.Comparison && (t class.Equals && (t class.Reducing && (t class.Declares && (t class.Dots && (t class.Name && (t class.Number && (t class.Widest && (t class.Unknown && (t class.End)))))))))))) (both (t class.Tilde) (t class.Plus && (t class.Minus && (t class.Star && (t class.Comparison && (t class.Equals && (t class.Reducing && (t class.Declares && (t class.Dots && (t class.Name && (t class.Number && (t class.Widest && (t class.Unknown && (t class.End))))))))))))) (both (t class.Comma) (t class.Tilde && (t class.Plus && (t class.Minus && (t class.Star && (t class.Comparison && (t class.Equals && (t class.Reducing && (t class.Declares && (t class.Dots && (t class.Name && (t class.Number && (t class.Widest && (t class.Unknown && (t class.End)))))))))))))) (both (t class.CloseBrace) (t class.Comma && (t class.Tilde && (t class.Plus && (t class.Minus && (t class.Star && (t class.Comparison && (t class.Equals && (t class.Reducing && (t class.Declares && (t class.Dots && (t class.Name && (t class.Number && (t class.Widest && (t class.Unknown && (t class.End))))))))))))))) (both (t class.OpenBrace) (t class.CloseBrace && (t class.Comma && (t class.Tilde && (t class.Plus && (t class.Minus && (t class.Star && (t class.Comparison && (t class.Equals && (t class.Reducing && (t class.Declares && (t class.Dots && (t class.Name && (t class.Number && (t class.Widest && (t class.Unknown && (t class.End)))))))))))))))) (both (t class.CloseParenthesis) (t class.OpenBrace && (t class.CloseBrace && (t class.Comma && (t class.Tilde && (t class.Plus && (t class.Minus && (t class.Star && (t class.Comparison && (t class.Equals && (t class.Reducing && (t class.Declares && (t class.Dots && (t class.Name && (t class.Number && (t class.Widest && (t class.Unknown && (t class.End))))))))))))))))) (both (t class.OpenParenthesis) (t class.CloseParenthesis && (t class.OpenBrace && (t class.CloseBrace && (t class.Comma && (t class.Tilde && (t class.Plus && (t class.Minus && (t class.Star && (t class.Comparison && (t class.Equals && (t class.Reducing && (t class.Declares && (t class.Dots && (t class.Name && (t class.Number && (t class.Widest && (t class.Unknown && (t class.End)))))))))))))))))) (both (t class.CloseBracket) (t class.OpenParenthesis && (t class.CloseParenthesis && (t class.OpenBrace && (t class.CloseBrace && (t class.Comma && (t class.Tilde && (t class.Plus && (t class.Minus && (t class.Star && (t class.Comparison && (t class.Equals && (t class.Reducing && (t class.Declares && (t class.Dots && (t class.Name && (t class.Number && (t class.Widest && (t class.Unknown && (t class.End))))))))))))))))))) (both (t class.OpenBracket) (t class.CloseBracket && (t class.OpenParenthesis && (t class.CloseParenthesis && (t class.OpenBrace && (t class.CloseBrace && (t class.Comma && (t class.Tilde && (t class.Plus && (t class.Minus && (t class.Star && (t class.Comparison && (t class.Equals && (t class.Reducing && (t class.Declares && (t class.Dots && (t class.Name && (t class.Number && (t class.Widest && (t class.Unknown && (t class.End)))))))))))))))))))) (both (t class.Element) (t class.OpenBracket && (t class.CloseBracket && (t class.OpenParenthesis && (t class.CloseParenthesis && (t class.OpenBrace && (t class.CloseBrace && (t class.Comma && (t class.Tilde && (t class.Plus && (t class.Minus && (t class.Star && (t class.Comparison && (t class.Equals && (t class.Reducing && (t class.Declares && (t class.Dots && (t class.Name && (t class.Number && (t class.Widest && (t class.Unknown && (t class.End))))))))))))))))))))) (both (t class.Store) (t class.Element && (t class.OpenBracket && (t class.CloseBracket && (t class.OpenParenthesis && (t class.CloseParenthesis && (t class.OpenBrace && (t class.CloseBrace && (t class.Comma && (t class.Tilde && (t class.Plus && (t class.Minus && (t class.Star && (t class.Comparison && (t class.Equals && (t class.Reducing && (t class.Declares && (t class.Dots && (t class.Name && (t class.Number && (t class.Widest && (t class.Unknown && (t class.End)))))))))))))))))))))) (both (t class.Call) (t class.Store && (t class.Element && (t class.OpenBracket && (t class.CloseBracket && (t class.OpenParenthesis && (t class.CloseParenthesis && (t class.OpenBrace && (t class.CloseBrace && (t class.Comma && (t class.Tilde && (t class.Plus && (t class.Minus && (t class.Star && (t class.Comparison && (t class.Equals && (t class.Reducing && (t class.Declares && (t class.Dots && (t class.Name && (t class.Number && (t class.Widest && (t class.Unknown && (t class.End))))))))))))))))))))))) (both (t class.Protocol) (t class.Call && (t class.Store && (t class.Element && (t class.OpenBracket && (t class.CloseBracket && (t class.OpenParenthesis && (t class.CloseParenthesis && (t class.OpenBrace && (t class.CloseBrace && (t class.Comma && (t class.Tilde && (t class.Plus && (t class.Minus && (t class.Star && (t class.Comparison && (t class.Equals && (t class.Reducing && (t class.Declares && (t class.Dots && (t class.Name && (t class.Number && (t class.Widest && (t class.Unknown && (t class.End)))))))))))))))))))))))) (both (t class.Turn) (t class.Protocol && (t class.Call && (t class.Store && (t class.Element && (t class.OpenBracket && (t class.CloseBracket && (t class.OpenParenthesis && (t class.CloseParenthesis && (t class.OpenBrace && (t class.CloseBrace && (t class.Comma && (t class.Tilde && (t class.Plus && (t class.Minus && (t class.Star && (t class.Comparison && (t class.Equals && (t class.Reducing && (t class.Declares && (t class.Dots && (t class.Name && (t class.Number && (t class.Widest && (t class.Unknown && (t class.End))))))))))))))))))))))))) (both (t class.Let) (t class.Turn && (t class.Protocol && (t class.Call && (t class.Store && (t class.Element && (t class.OpenBracket && (t class.CloseBracket && (t class.OpenParenthesis && (t class.CloseParenthesis && (t class.OpenBrace && (t class.CloseBrace && (t class.Comma && (t class.Tilde && (t class.Plus && (t class.Minus && (t class.Star && (t class.Comparison && (t class.Equals && (t class.Reducing && (t class.Declares && (t class.Dots && (t class.Name && (t class.Number && (t class.Widest && (t class.Unknown && (t class.End)))))))))))))))))))))))))) (both (t class.If) (t class.Let && (t class.Turn && (t class.Protocol && (t class.Call && (t class.Store && (t class.Element && (t class.OpenBracket && (t class.CloseBracket && (t class.OpenParenthesis && (t class.CloseParenthesis && (t class.OpenBrace && (t class.CloseBrace && (t class.Comma && (t class.Tilde && (t class.Plus && (t class.Minus && (t class.Star && (t class.Comparison && (t class.Equals && (t class.Reducing && (t class.Declares && (t class.Dots && (t class.Name && (t class.Number && (t class.Widest && (t class.Unknown && (t class.End))))))))))))))))))))))))))) (both (t class.Loop) (t class.If && (t class.Let && (t class.Turn && (t class.Protocol && (t class.Call && (t class.Store && (t class.Element && (t class.OpenBracket && (t class.CloseBracket && (t class.OpenParenthesis && (t class.CloseParenthesis && (t class.OpenBrace && (t class.CloseBrace && (t class.Comma && (t class.Tilde && (t class.Plus && (t class.Minus && (t class.Star && (t class.Comparison && (t class.Equals && (t class.Reducing && (t class.Declares && (t class.Dots && (t class.Name && (t class.Number && (t class.Widest && (t class.Unknown && (t class.End)))))))))))))))))))))))))))) (both (t class.Shape) (t class.Loop && (t class.If && (t class.Let && (t class.Turn && (t class.Protocol && (t class.Call && (t class.Store && (t class.Element && (t class.OpenBracket && (t class.CloseBracket && (t class.OpenParenthesis && (t class.CloseParenthesis && (t class.OpenBrace && (t class.CloseBrace && (t class.Comma && (t class.Tilde && (t class.Plus && (t class.Minus && (t class.Star && (t class.Comparison && (t class.Equals && (t class.Reducing && (t class.Declares && (t class.Dots && (t class.Name && (t class.Number && (t class.Widest && (t class.Unknown && (t class.End))))))))))))))))))))))))))))) (both (t class.Fill) (t class.Shape && (t class.Loop && (t class.If && (t class.Let && (t class.Turn && (t class.Protocol && (t class.Call && (t class.Store && (t class.Element && (t class.OpenBracket && (t class.CloseBracket && (t class.OpenParenthesis && (t class.CloseParenthesis && (t class.OpenBrace && (t class.CloseBrace && (t class.Comma && (t class.Tilde && (t class.Plus && (t class.Minus && (t class.Star && (t class.Comparison && (t class.Equals && (t class.Reducing && (t class.Declares && (t class.Dots && (t class.Name && (t class.Number && (t class.Widest && (t class.Unknown && (t class.End)))))))))))))))))))))))))))))) (both (t class.OutOrTmp) (t class.Fill && (t class.Shape && (t class.Loop && (t class.If && (t class.Let && (t class.Turn && (t class.Protocol && (t class.Call && (t class.Store && (t class.Element && (t class.OpenBracket && (t class.CloseBracket && (t class.OpenParenthesis && (t class.CloseParenthesis && (t class.OpenBrace && (t class.CloseBrace && (t class.Comma && (t class.Tilde && (t class.Plus && (t class.Minus && (t class.Star && (t class.Comparison && (t class.Equals && (t class.Reducing && (t class.Declares && (t class.Dots && (t class.Name && (t class.Number && (t class.Widest && (t class.Unknown && (t class.End))))))))))))))))))))))))))))))) (both (t class.In) (t class.OutOrTmp && (t class.Fill && (t class.Shape && (t class.Loop && (t class.If && (t class.Let && (t class.Turn && (t class.Protocol && (t class.Call && (t class.Store && (t class.Element && (t class.OpenBracket && (t class.CloseBracket && (t class.OpenParenthesis && (t class.CloseParenthesis && (t class.OpenBrace && (t class.CloseBrace && (t class.Comma && (t class.Tilde && (t class.Plus && (t class.Minus && (t class.Star && (t class.Comparison && (t class.Equals && (t class.Reducing && (t class.Declares && (t class.Dots && (t class.Name && (t class.Number && (t class.Widest && (t class.Unknown && (t class.End)))))))))))))))))))))))))))))))) h).1).1).1).1).1).1).1).1).1).1).1).1).1).1).1).1).1).1).1).1).1).1).1).1).1).1).0
+at_each t h class.Dots = (both (t class.Dots) (t class.Name && (t class.Number && (t class.Widest && (t class.Unknown && (t class.End))))) (both (t class.Declares) (t class.Dots && (t class.Name && (t class.Number && (t class.Widest && (t class.Unknown && (t class.End)))))) (both (t class.Reducing) (t class.Declares && (t class.Dots && (t class.Name && (t class.Number && (t class.Widest && (t class.Unknown && (t class.End))))))) (both (t class.Equals) (t class.Reducing && (t class.Declares && (t class.Dots && (t class.Name && (t class.Number && (t class.Widest && (t class.Unknown && (t class.End)))))))) (both (t class.Comparison) (t class.Equals && (t class.Reducing && (t class.Declares && (t class.Dots && (t class.Name && (t class.Number && (t class.Widest && (t class.Unknown && (t class.End))))))))) (both (t class.Star) (t class.Comparison && (t class.Equals && (t class.Reducing && (t class.Declares && (t class.Dots && (t class.Name && (t class.Number && (t class.Widest && (t class.Unknown && (t class.End)))))))))) (both (t class.Minus) (t class.Star && (t class.Comparison && (t class.Equals && (t class.Reducing && (t class.Declares && (t class.Dots && (t class.Name && (t class.Number && (t class.Widest && (t class.Unknown && (t class.End))))))))))) (both (t class.Plus) (t class.Minus && (t class.Star && (t class.Comparison && (t class.Equals && (t class.Reducing && (t class.Declares && (t class.Dots && (t class.Name && (t class.Number && (t class.Widest && (t class.Unknown && (t class.End)))))))))))) (both (t class.Tilde) (t class.Plus && (t class.Minus && (t class.Star && (t class.Comparison && (t class.Equals && (t class.Reducing && (t class.Declares && (t class.Dots && (t class.Name && (t class.Number && (t class.Widest && (t class.Unknown && (t class.End))))))))))))) (both (t class.Comma) (t class.Tilde && (t class.Plus && (t class.Minus && (t class.Star && (t class.Comparison && (t class.Equals && (t class.Reducing && (t class.Declares && (t class.Dots && (t class.Name && (t class.Number && (t class.Widest && (t class.Unknown && (t class.End)))))))))))))) (both (t class.CloseBrace) (t class.Comma && (t class.Tilde && (t class.Plus && (t class.Minus && (t class.Star && (t class.Comparison && (t class.Equals && (t class.Reducing && (t class.Declares && (t class.Dots && (t class.Name && (t class.Number && (t class.Widest && (t class.Unknown && (t class.End))))))))))))))) (both (t class.OpenBrace) (t class.CloseBrace && (t class.Comma && (t class.Tilde && (t class.Plus && (t class.Minus && (t class.Star && (t class.Comparison && (t class.Equals && (t class.Reducing && (t class.Declares && (t class.Dots && (t class.Name && (t class.Number && (t class.Widest && (t class.Unknown && (t class.End)))))))))))))))) (both (t class.CloseParenthesis) (t class.OpenBrace && (t class.CloseBrace && (t class.Comma && (t class.Tilde && (t class.Plus && (t class.Minus && (t class.Star && (t class.Comparison && (t class.Equals && (t class.Reducing && (t class.Declares && (t class.Dots && (t class.Name && (t class.Number && (t class.Widest && (t class.Unknown && (t class.End))))))))))))))))) (both (t class.OpenParenthesis) (t class.CloseParenthesis && (t class.OpenBrace && (t class.CloseBrace && (t class.Comma && (t class.Tilde && (t class.Plus && (t class.Minus && (t class.Star && (t class.Comparison && (t class.Equals && (t class.Reducing && (t class.Declares && (t class.Dots && (t class.Name && (t class.Number && (t class.Widest && (t class.Unknown && (t class.End)))))))))))))))))) (both (t class.CloseBracket) (t class.OpenParenthesis && (t class.CloseParenthesis && (t class.OpenBrace && (t class.CloseBrace && (t class.Comma && (t class.Tilde && (t class.Plus && (t class.Minus && (t class.Star && (t class.Comparison && (t class.Equals && (t class.Reducing && (t class.Declares && (t class.Dots && (t class.Name && (t class.Number && (t class.Widest && (t class.Unknown && (t class.End))))))))))))))))))) (both (t class.OpenBracket) (t class.CloseBracket && (t class.OpenParenthesis && (t class.CloseParenthesis && (t class.OpenBrace && (t class.CloseBrace && (t class.Comma && (t class.Tilde && (t class.Plus && (t class.Minus && (t class.Star && (t class.Comparison && (t class.Equals && (t class.Reducing && (t class.Declares && (t class.Dots && (t class.Name && (t class.Number && (t class.Widest && (t class.Unknown && (t class.End)))))))))))))))))))) (both (t class.Element) (t class.OpenBracket && (t class.CloseBracket && (t class.OpenParenthesis && (t class.CloseParenthesis && (t class.OpenBrace && (t class.CloseBrace && (t class.Comma && (t class.Tilde && (t class.Plus && (t class.Minus && (t class.Star && (t class.Comparison && (t class.Equals && (t class.Reducing && (t class.Declares && (t class.Dots && (t class.Name && (t class.Number && (t class.Widest && (t class.Unknown && (t class.End))))))))))))))))))))) (both (t class.Store) (t class.Element && (t class.OpenBracket && (t class.CloseBracket && (t class.OpenParenthesis && (t class.CloseParenthesis && (t class.OpenBrace && (t class.CloseBrace && (t class.Comma && (t class.Tilde && (t class.Plus && (t class.Minus && (t class.Star && (t class.Comparison && (t class.Equals && (t class.Reducing && (t class.Declares && (t class.Dots && (t class.Name && (t class.Number && (t class.Widest && (t class.Unknown && (t class.End)))))))))))))))))))))) (both (t class.Call) (t class.Store && (t class.Element && (t class.OpenBracket && (t class.CloseBracket && (t class.OpenParenthesis && (t class.CloseParenthesis && (t class.OpenBrace && (t class.CloseBrace && (t class.Comma && (t class.Tilde && (t class.Plus && (t class.Minus && (t class.Star && (t class.Comparison && (t class.Equals && (t class.Reducing && (t class.Declares && (t class.Dots && (t class.Name && (t class.Number && (t class.Widest && (t class.Unknown && (t class.End))))))))))))))))))))))) (both (t class.Protocol) (t class.Call && (t class.Store && (t class.Element && (t class.OpenBracket && (t class.CloseBracket && (t class.OpenParenthesis && (t class.CloseParenthesis && (t class.OpenBrace && (t class.CloseBrace && (t class.Comma && (t class.Tilde && (t class.Plus && (t class.Minus && (t class.Star && (t class.Comparison && (t class.Equals && (t class.Reducing && (t class.Declares && (t class.Dots && (t class.Name && (t class.Number && (t class.Widest && (t class.Unknown && (t class.End)))))))))))))))))))))))) (both (t class.Turn) (t class.Protocol && (t class.Call && (t class.Store && (t class.Element && (t class.OpenBracket && (t class.CloseBracket && (t class.OpenParenthesis && (t class.CloseParenthesis && (t class.OpenBrace && (t class.CloseBrace && (t class.Comma && (t class.Tilde && (t class.Plus && (t class.Minus && (t class.Star && (t class.Comparison && (t class.Equals && (t class.Reducing && (t class.Declares && (t class.Dots && (t class.Name && (t class.Number && (t class.Widest && (t class.Unknown && (t class.End))))))))))))))))))))))))) (both (t class.Let) (t class.Turn && (t class.Protocol && (t class.Call && (t class.Store && (t class.Element && (t class.OpenBracket && (t class.CloseBracket && (t class.OpenParenthesis && (t class.CloseParenthesis && (t class.OpenBrace && (t class.CloseBrace && (t class.Comma && (t class.Tilde && (t class.Plus && (t class.Minus && (t class.Star && (t class.Comparison && (t class.Equals && (t class.Reducing && (t class.Declares && (t class.Dots && (t class.Name && (t class.Number && (t class.Widest && (t class.Unknown && (t class.End)))))))))))))))))))))))))) (both (t class.If) (t class.Let && (t class.Turn && (t class.Protocol && (t class.Call && (t class.Store && (t class.Element && (t class.OpenBracket && (t class.CloseBracket && (t class.OpenParenthesis && (t class.CloseParenthesis && (t class.OpenBrace && (t class.CloseBrace && (t class.Comma && (t class.Tilde && (t class.Plus && (t class.Minus && (t class.Star && (t class.Comparison && (t class.Equals && (t class.Reducing && (t class.Declares && (t class.Dots && (t class.Name && (t class.Number && (t class.Widest && (t class.Unknown && (t class.End))))))))))))))))))))))))))) (both (t class.Loop) (t class.If && (t class.Let && (t class.Turn && (t class.Protocol && (t class.Call && (t class.Store && (t class.Element && (t class.OpenBracket && (t class.CloseBracket && (t class.OpenParenthesis && (t class.CloseParenthesis && (t class.OpenBrace && (t class.CloseBrace && (t class.Comma && (t class.Tilde && (t class.Plus && (t class.Minus && (t class.Star && (t class.Comparison && (t class.Equals && (t class.Reducing && (t class.Declares && (t class.Dots && (t class.Name && (t class.Number && (t class.Widest && (t class.Unknown && (t class.End)))))))))))))))))))))))))))) (both (t class.Shape) (t class.Loop && (t class.If && (t class.Let && (t class.Turn && (t class.Protocol && (t class.Call && (t class.Store && (t class.Element && (t class.OpenBracket && (t class.CloseBracket && (t class.OpenParenthesis && (t class.CloseParenthesis && (t class.OpenBrace && (t class.CloseBrace && (t class.Comma && (t class.Tilde && (t class.Plus && (t class.Minus && (t class.Star && (t class.Comparison && (t class.Equals && (t class.Reducing && (t class.Declares && (t class.Dots && (t class.Name && (t class.Number && (t class.Widest && (t class.Unknown && (t class.End))))))))))))))))))))))))))))) (both (t class.Fill) (t class.Shape && (t class.Loop && (t class.If && (t class.Let && (t class.Turn && (t class.Protocol && (t class.Call && (t class.Store && (t class.Element && (t class.OpenBracket && (t class.CloseBracket && (t class.OpenParenthesis && (t class.CloseParenthesis && (t class.OpenBrace && (t class.CloseBrace && (t class.Comma && (t class.Tilde && (t class.Plus && (t class.Minus && (t class.Star && (t class.Comparison && (t class.Equals && (t class.Reducing && (t class.Declares && (t class.Dots && (t class.Name && (t class.Number && (t class.Widest && (t class.Unknown && (t class.End)))))))))))))))))))))))))))))) (both (t class.OutOrTmp) (t class.Fill && (t class.Shape && (t class.Loop && (t class.If && (t class.Let && (t class.Turn && (t class.Protocol && (t class.Call && (t class.Store && (t class.Element && (t class.OpenBracket && (t class.CloseBracket && (t class.OpenParenthesis && (t class.CloseParenthesis && (t class.OpenBrace && (t class.CloseBrace && (t class.Comma && (t class.Tilde && (t class.Plus && (t class.Minus && (t class.Star && (t class.Comparison && (t class.Equals && (t class.Reducing && (t class.Declares && (t class.Dots && (t class.Name && (t class.Number && (t class.Widest && (t class.Unknown && (t class.End))))))))))))))))))))))))))))))) (both (t class.In) (t class.OutOrTmp && (t class.Fill && (t class.Shape && (t class.Loop && (t class.If && (t class.Let && (t class.Turn && (t class.Protocol && (t class.Call && (t class.Store && (t class.Element && (t class.OpenBracket && (t class.CloseBracket && (t class.OpenParenthesis && (t class.CloseParenthesis && (t class.OpenBrace && (t class.CloseBrace && (t class.Comma && (t class.Tilde && (t class.Plus && (t class.Minus && (t class.Star && (t class.Comparison && (t class.Equals && (t class.Reducing && (t class.Declares && (t class.Dots && (t class.Name && (t class.Number && (t class.Widest && (t class.Unknown && (t class.End)))))))))))))))))))))))))))))))) h).1).1).1).1).1).1).1).1).1).1).1).1).1).1).1).1).1).1).1).1).1).1).1).1).1).1).1).0
+at_each t h class.Name = (both (t class.Name) (t class.Number && (t class.Widest && (t class.Unknown && (t class.End)))) (both (t class.Dots) (t class.Name && (t class.Number && (t class.Widest && (t class.Unknown && (t class.End))))) (both (t class.Declares) (t class.Dots && (t class.Name && (t class.Number && (t class.Widest && (t class.Unknown && (t class.End)))))) (both (t class.Reducing) (t class.Declares && (t class.Dots && (t class.Name && (t class.Number && (t class.Widest && (t class.Unknown && (t class.End))))))) (both (t class.Equals) (t class.Reducing && (t class.Declares && (t class.Dots && (t class.Name && (t class.Number && (t class.Widest && (t class.Unknown && (t class.End)))))))) (both (t class.Comparison) (t class.Equals && (t class.Reducing && (t class.Declares && (t class.Dots && (t class.Name && (t class.Number && (t class.Widest && (t class.Unknown && (t class.End))))))))) (both (t class.Star) (t class.Comparison && (t class.Equals && (t class.Reducing && (t class.Declares && (t class.Dots && (t class.Name && (t class.Number && (t class.Widest && (t class.Unknown && (t class.End)))))))))) (both (t class.Minus) (t class.Star && (t class.Comparison && (t class.Equals && (t class.Reducing && (t class.Declares && (t class.Dots && (t class.Name && (t class.Number && (t class.Widest && (t class.Unknown && (t class.End))))))))))) (both (t class.Plus) (t class.Minus && (t class.Star && (t class.Comparison && (t class.Equals && (t class.Reducing && (t class.Declares && (t class.Dots && (t class.Name && (t class.Number && (t class.Widest && (t class.Unknown && (t class.End)))))))))))) (both (t class.Tilde) (t class.Plus && (t class.Minus && (t class.Star && (t class.Comparison && (t class.Equals && (t class.Reducing && (t class.Declares && (t class.Dots && (t class.Name && (t class.Number && (t class.Widest && (t class.Unknown && (t class.End))))))))))))) (both (t class.Comma) (t class.Tilde && (t class.Plus && (t class.Minus && (t class.Star && (t class.Comparison && (t class.Equals && (t class.Reducing && (t class.Declares && (t class.Dots && (t class.Name && (t class.Number && (t class.Widest && (t class.Unknown && (t class.End)))))))))))))) (both (t class.CloseBrace) (t class.Comma && (t class.Tilde && (t class.Plus && (t class.Minus && (t class.Star && (t class.Comparison && (t class.Equals && (t class.Reducing && (t class.Declares && (t class.Dots && (t class.Name && (t class.Number && (t class.Widest && (t class.Unknown && (t class.End))))))))))))))) (both (t class.OpenBrace) (t class.CloseBrace && (t class.Comma && (t class.Tilde && (t class.Plus && (t class.Minus && (t class.Star && (t class.Comparison && (t class.Equals && (t class.Reducing && (t class.Declares && (t class.Dots && (t class.Name && (t class.Number && (t class.Widest && (t class.Unknown && (t class.End)))))))))))))))) (both (t class.CloseParenthesis) (t class.OpenBrace && (t class.CloseBrace && (t class.Comma && (t class.Tilde && (t class.Plus && (t class.Minus && (t class.Star && (t class.Comparison && (t class.Equals && (t class.Reducing && (t class.Declares && (t class.Dots && (t class.Name && (t class.Number && (t class.Widest && (t class.Unknown && (t class.End))))))))))))))))) (both (t class.OpenParenthesis) (t class.CloseParenthesis && (t class.OpenBrace && (t class.CloseBrace && (t class.Comma && (t class.Tilde && (t class.Plus && (t class.Minus && (t class.Star && (t class.Comparison && (t class.Equals && (t class.Reducing && (t class.Declares && (t class.Dots && (t class.Name && (t class.Number && (t class.Widest && (t class.Unknown && (t class.End)))))))))))))))))) (both (t class.CloseBracket) (t class.OpenParenthesis && (t class.CloseParenthesis && (t class.OpenBrace && (t class.CloseBrace && (t class.Comma && (t class.Tilde && (t class.Plus && (t class.Minus && (t class.Star && (t class.Comparison && (t class.Equals && (t class.Reducing && (t class.Declares && (t class.Dots && (t class.Name && (t class.Number && (t class.Widest && (t class.Unknown && (t class.End))))))))))))))))))) (both (t class.OpenBracket) (t class.CloseBracket && (t class.OpenParenthesis && (t class.CloseParenthesis && (t class.OpenBrace && (t class.CloseBrace && (t class.Comma && (t class.Tilde && (t class.Plus && (t class.Minus && (t class.Star && (t class.Comparison && (t class.Equals && (t class.Reducing && (t class.Declares && (t class.Dots && (t class.Name && (t class.Number && (t class.Widest && (t class.Unknown && (t class.End)))))))))))))))))))) (both (t class.Element) (t class.OpenBracket && (t class.CloseBracket && (t class.OpenParenthesis && (t class.CloseParenthesis && (t class.OpenBrace && (t class.CloseBrace && (t class.Comma && (t class.Tilde && (t class.Plus && (t class.Minus && (t class.Star && (t class.Comparison && (t class.Equals && (t class.Reducing && (t class.Declares && (t class.Dots && (t class.Name && (t class.Number && (t class.Widest && (t class.Unknown && (t class.End))))))))))))))))))))) (both (t class.Store) (t class.Element && (t class.OpenBracket && (t class.CloseBracket && (t class.OpenParenthesis && (t class.CloseParenthesis && (t class.OpenBrace && (t class.CloseBrace && (t class.Comma && (t class.Tilde && (t class.Plus && (t class.Minus && (t class.Star && (t class.Comparison && (t class.Equals && (t class.Reducing && (t class.Declares && (t class.Dots && (t class.Name && (t class.Number && (t class.Widest && (t class.Unknown && (t class.End)))))))))))))))))))))) (both (t class.Call) (t class.Store && (t class.Element && (t class.OpenBracket && (t class.CloseBracket && (t class.OpenParenthesis && (t class.CloseParenthesis && (t class.OpenBrace && (t class.CloseBrace && (t class.Comma && (t class.Tilde && (t class.Plus && (t class.Minus && (t class.Star && (t class.Comparison && (t class.Equals && (t class.Reducing && (t class.Declares && (t class.Dots && (t class.Name && (t class.Number && (t class.Widest && (t class.Unknown && (t class.End))))))))))))))))))))))) (both (t class.Protocol) (t class.Call && (t class.Store && (t class.Element && (t class.OpenBracket && (t class.CloseBracket && (t class.OpenParenthesis && (t class.CloseParenthesis && (t class.OpenBrace && (t class.CloseBrace && (t class.Comma && (t class.Tilde && (t class.Plus && (t class.Minus && (t class.Star && (t class.Comparison && (t class.Equals && (t class.Reducing && (t class.Declares && (t class.Dots && (t class.Name && (t class.Number && (t class.Widest && (t class.Unknown && (t class.End)))))))))))))))))))))))) (both (t class.Turn) (t class.Protocol && (t class.Call && (t class.Store && (t class.Element && (t class.OpenBracket && (t class.CloseBracket && (t class.OpenParenthesis && (t class.CloseParenthesis && (t class.OpenBrace && (t class.CloseBrace && (t class.Comma && (t class.Tilde && (t class.Plus && (t class.Minus && (t class.Star && (t class.Comparison && (t class.Equals && (t class.Reducing && (t class.Declares && (t class.Dots && (t class.Name && (t class.Number && (t class.Widest && (t class.Unknown && (t class.End))))))))))))))))))))))))) (both (t class.Let) (t class.Turn && (t class.Protocol && (t class.Call && (t class.Store && (t class.Element && (t class.OpenBracket && (t class.CloseBracket && (t class.OpenParenthesis && (t class.CloseParenthesis && (t class.OpenBrace && (t class.CloseBrace && (t class.Comma && (t class.Tilde && (t class.Plus && (t class.Minus && (t class.Star && (t class.Comparison && (t class.Equals && (t class.Reducing && (t class.Declares && (t class.Dots && (t class.Name && (t class.Number && (t class.Widest && (t class.Unknown && (t class.End)))))))))))))))))))))))))) (both (t class.If) (t class.Let && (t class.Turn && (t class.Protocol && (t class.Call && (t class.Store && (t class.Element && (t class.OpenBracket && (t class.CloseBracket && (t class.OpenParenthesis && (t class.CloseParenthesis && (t class.OpenBrace && (t class.CloseBrace && (t class.Comma && (t class.Tilde && (t class.Plus && (t class.Minus && (t class.Star && (t class.Comparison && (t class.Equals && (t class.Reducing && (t class.Declares && (t class.Dots && (t class.Name && (t class.Number && (t class.Widest && (t class.Unknown && (t class.End))))))))))))))))))))))))))) (both (t class.Loop) (t class.If && (t class.Let && (t class.Turn && (t class.Protocol && (t class.Call && (t class.Store && (t class.Element && (t class.OpenBracket && (t class.CloseBracket && (t class.OpenParenthesis && (t class.CloseParenthesis && (t class.OpenBrace && (t class.CloseBrace && (t class.Comma && (t class.Tilde && (t class.Plus && (t class.Minus && (t class.Star && (t class.Comparison && (t class.Equals && (t class.Reducing && (t class.Declares && (t class.Dots && (t class.Name && (t class.Number && (t class.Widest && (t class.Unknown && (t class.End)))))))))))))))))))))))))))) (both (t class.Shape) (t class.Loop && (t class.If && (t class.Let && (t class.Turn && (t class.Protocol && (t class.Call && (t class.Store && (t class.Element && (t class.OpenBracket && (t class.CloseBracket && (t class.OpenParenthesis && (t class.CloseParenthesis && (t class.OpenBrace && (t class.CloseBrace && (t class.Comma && (t class.Tilde && (t class.Plus && (t class.Minus && (t class.Star && (t class.Comparison && (t class.Equals && (t class.Reducing && (t class.Declares && (t class.Dots && (t class.Name && (t class.Number && (t class.Widest && (t class.Unknown && (t class.End))))))))))))))))))))))))))))) (both (t class.Fill) (t class.Shape && (t class.Loop && (t class.If && (t class.Let && (t class.Turn && (t class.Protocol && (t class.Call && (t class.Store && (t class.Element && (t class.OpenBracket && (t class.CloseBracket && (t class.OpenParenthesis && (t class.CloseParenthesis && (t class.OpenBrace && (t class.CloseBrace && (t class.Comma && (t class.Tilde && (t class.Plus && (t class.Minus && (t class.Star && (t class.Comparison && (t class.Equals && (t class.Reducing && (t class.Declares && (t class.Dots && (t class.Name && (t class.Number && (t class.Widest && (t class.Unknown && (t class.End)))))))))))))))))))))))))))))) (both (t class.OutOrTmp) (t class.Fill && (t class.Shape && (t class.Loop && (t class.If && (t class.Let && (t class.Turn && (t class.Protocol && (t class.Call && (t class.Store && (t class.Element && (t class.OpenBracket && (t class.CloseBracket && (t class.OpenParenthesis && (t class.CloseParenthesis && (t class.OpenBrace && (t class.CloseBrace && (t class.Comma && (t class.Tilde && (t class.Plus && (t class.Minus && (t class.Star && (t class.Comparison && (t class.Equals && (t class.Reducing && (t class.Declares && (t class.Dots && (t class.Name && (t class.Number && (t class.Widest && (t class.Unknown && (t class.End))))))))))))))))))))))))))))))) (both (t class.In) (t class.OutOrTmp && (t class.Fill && (t class.Shape && (t class.Loop && (t class.If && (t class.Let && (t class.Turn && (t class.Protocol && (t class.Call && (t class.Store && (t class.Element && (t class.OpenBracket && (t class.CloseBracket && (t class.OpenParenthesis && (t class.CloseParenthesis && (t class.OpenBrace && (t class.CloseBrace && (t class.Comma && (t class.Tilde && (t class.Plus && (t class.Minus && (t class.Star && (t class.Comparison && (t class.Equals && (t class.Reducing && (t class.Declares && (t class.Dots && (t class.Name && (t class.Number && (t class.Widest && (t class.Unknown && (t class.End)))))))))))))))))))))))))))))))) h).1).1).1).1).1).1).1).1).1).1).1).1).1).1).1).1).1).1).1).1).1).1).1).1).1).1).1).1).0
+at_each t h class.Number = (both (t class.Number) (t class.Widest && (t class.Unknown && (t class.End))) (both (t class.Name) (t class.Number && (t class.Widest && (t class.Unknown && (t class.End)))) (both (t class.Dots) (t class.Name && (t class.Number && (t class.Widest && (t class.Unknown && (t class.End))))) (both (t class.Declares) (t class.Dots && (t class.Name && (t class.Number && (t class.Widest && (t class.Unknown && (t class.End)))))) (both (t class.Reducing) (t class.Declares && (t class.Dots && (t class.Name && (t class.Number && (t class.Widest && (t class.Unknown && (t class.End))))))) (both (t class.Equals) (t class.Reducing && (t class.Declares && (t class.Dots && (t class.Name && (t class.Number && (t class.Widest && (t class.Unknown && (t class.End)))))))) (both (t class.Comparison) (t class.Equals && (t class.Reducing && (t class.Declares && (t class.Dots && (t class.Name && (t class.Number && (t class.Widest && (t class.Unknown && (t class.End))))))))) (both (t class.Star) (t class.Comparison && (t class.Equals && (t class.Reducing && (t class.Declares && (t class.Dots && (t class.Name && (t class.Number && (t class.Widest && (t class.Unknown && (t class.End)))))))))) (both (t class.Minus) (t class.Star && (t class.Comparison && (t class.Equals && (t class.Reducing && (t class.Declares && (t class.Dots && (t class.Name && (t class.Number && (t class.Widest && (t class.Unknown && (t class.End))))))))))) (both (t class.Plus) (t class.Minus && (t class.Star && (t class.Comparison && (t class.Equals && (t class.Reducing && (t class.Declares && (t class.Dots && (t class.Name && (t class.Number && (t class.Widest && (t class.Unknown && (t class.End)))))))))))) (both (t class.Tilde) (t class.Plus && (t class.Minus && (t class.Star && (t class.Comparison && (t class.Equals && (t class.Reducing && (t class.Declares && (t class.Dots && (t class.Name && (t class.Number && (t class.Widest && (t class.Unknown && (t class.End))))))))))))) (both (t class.Comma) (t class.Tilde && (t class.Plus && (t class.Minus && (t class.Star && (t class.Comparison && (t class.Equals && (t class.Reducing && (t class.Declares && (t class.Dots && (t class.Name && (t class.Number && (t class.Widest && (t class.Unknown && (t class.End)))))))))))))) (both (t class.CloseBrace) (t class.Comma && (t class.Tilde && (t class.Plus && (t class.Minus && (t class.Star && (t class.Comparison && (t class.Equals && (t class.Reducing && (t class.Declares && (t class.Dots && (t class.Name && (t class.Number && (t class.Widest && (t class.Unknown && (t class.End))))))))))))))) (both (t class.OpenBrace) (t class.CloseBrace && (t class.Comma && (t class.Tilde && (t class.Plus && (t class.Minus && (t class.Star && (t class.Comparison && (t class.Equals && (t class.Reducing && (t class.Declares && (t class.Dots && (t class.Name && (t class.Number && (t class.Widest && (t class.Unknown && (t class.End)))))))))))))))) (both (t class.CloseParenthesis) (t class.OpenBrace && (t class.CloseBrace && (t class.Comma && (t class.Tilde && (t class.Plus && (t class.Minus && (t class.Star && (t class.Comparison && (t class.Equals && (t class.Reducing && (t class.Declares && (t class.Dots && (t class.Name && (t class.Number && (t class.Widest && (t class.Unknown && (t class.End))))))))))))))))) (both (t class.OpenParenthesis) (t class.CloseParenthesis && (t class.OpenBrace && (t class.CloseBrace && (t class.Comma && (t class.Tilde && (t class.Plus && (t class.Minus && (t class.Star && (t class.Comparison && (t class.Equals && (t class.Reducing && (t class.Declares && (t class.Dots && (t class.Name && (t class.Number && (t class.Widest && (t class.Unknown && (t class.End)))))))))))))))))) (both (t class.CloseBracket) (t class.OpenParenthesis && (t class.CloseParenthesis && (t class.OpenBrace && (t class.CloseBrace && (t class.Comma && (t class.Tilde && (t class.Plus && (t class.Minus && (t class.Star && (t class.Comparison && (t class.Equals && (t class.Reducing && (t class.Declares && (t class.Dots && (t class.Name && (t class.Number && (t class.Widest && (t class.Unknown && (t class.End))))))))))))))))))) (both (t class.OpenBracket) (t class.CloseBracket && (t class.OpenParenthesis && (t class.CloseParenthesis && (t class.OpenBrace && (t class.CloseBrace && (t class.Comma && (t class.Tilde && (t class.Plus && (t class.Minus && (t class.Star && (t class.Comparison && (t class.Equals && (t class.Reducing && (t class.Declares && (t class.Dots && (t class.Name && (t class.Number && (t class.Widest && (t class.Unknown && (t class.End)))))))))))))))))))) (both (t class.Element) (t class.OpenBracket && (t class.CloseBracket && (t class.OpenParenthesis && (t class.CloseParenthesis && (t class.OpenBrace && (t class.CloseBrace && (t class.Comma && (t class.Tilde && (t class.Plus && (t class.Minus && (t class.Star && (t class.Comparison && (t class.Equals && (t class.Reducing && (t class.Declares && (t class.Dots && (t class.Name && (t class.Number && (t class.Widest && (t class.Unknown && (t class.End))))))))))))))))))))) (both (t class.Store) (t class.Element && (t class.OpenBracket && (t class.CloseBracket && (t class.OpenParenthesis && (t class.CloseParenthesis && (t class.OpenBrace && (t class.CloseBrace && (t class.Comma && (t class.Tilde && (t class.Plus && (t class.Minus && (t class.Star && (t class.Comparison && (t class.Equals && (t class.Reducing && (t class.Declares && (t class.Dots && (t class.Name && (t class.Number && (t class.Widest && (t class.Unknown && (t class.End)))))))))))))))))))))) (both (t class.Call) (t class.Store && (t class.Element && (t class.OpenBracket && (t class.CloseBracket && (t class.OpenParenthesis && (t class.CloseParenthesis && (t class.OpenBrace && (t class.CloseBrace && (t class.Comma && (t class.Tilde && (t class.Plus && (t class.Minus && (t class.Star && (t class.Comparison && (t class.Equals && (t class.Reducing && (t class.Declares && (t class.Dots && (t class.Name && (t class.Number && (t class.Widest && (t class.Unknown && (t class.End))))))))))))))))))))))) (both (t class.Protocol) (t class.Call && (t class.Store && (t class.Element && (t class.OpenBracket && (t class.CloseBracket && (t class.OpenParenthesis && (t class.CloseParenthesis && (t class.OpenBrace && (t class.CloseBrace && (t class.Comma && (t class.Tilde && (t class.Plus && (t class.Minus && (t class.Star && (t class.Comparison && (t class.Equals && (t class.Reducing && (t class.Declares && (t class.Dots && (t class.Name && (t class.Number && (t class.Widest && (t class.Unknown && (t class.End)))))))))))))))))))))))) (both (t class.Turn) (t class.Protocol && (t class.Call && (t class.Store && (t class.Element && (t class.OpenBracket && (t class.CloseBracket && (t class.OpenParenthesis && (t class.CloseParenthesis && (t class.OpenBrace && (t class.CloseBrace && (t class.Comma && (t class.Tilde && (t class.Plus && (t class.Minus && (t class.Star && (t class.Comparison && (t class.Equals && (t class.Reducing && (t class.Declares && (t class.Dots && (t class.Name && (t class.Number && (t class.Widest && (t class.Unknown && (t class.End))))))))))))))))))))))))) (both (t class.Let) (t class.Turn && (t class.Protocol && (t class.Call && (t class.Store && (t class.Element && (t class.OpenBracket && (t class.CloseBracket && (t class.OpenParenthesis && (t class.CloseParenthesis && (t class.OpenBrace && (t class.CloseBrace && (t class.Comma && (t class.Tilde && (t class.Plus && (t class.Minus && (t class.Star && (t class.Comparison && (t class.Equals && (t class.Reducing && (t class.Declares && (t class.Dots && (t class.Name && (t class.Number && (t class.Widest && (t class.Unknown && (t class.End)))))))))))))))))))))))))) (both (t class.If) (t class.Let && (t class.Turn && (t class.Protocol && (t class.Call && (t class.Store && (t class.Element && (t class.OpenBracket && (t class.CloseBracket && (t class.OpenParenthesis && (t class.CloseParenthesis && (t class.OpenBrace && (t class.CloseBrace && (t class.Comma && (t class.Tilde && (t class.Plus && (t class.Minus && (t class.Star && (t class.Comparison && (t class.Equals && (t class.Reducing && (t class.Declares && (t class.Dots && (t class.Name && (t class.Number && (t class.Widest && (t class.Unknown && (t class.End))))))))))))))))))))))))))) (both (t class.Loop) (t class.If && (t class.Let && (t class.Turn && (t class.Protocol && (t class.Call && (t class.Store && (t class.Element && (t class.OpenBracket && (t class.CloseBracket && (t class.OpenParenthesis && (t class.CloseParenthesis && (t class.OpenBrace && (t class.CloseBrace && (t class.Comma && (t class.Tilde && (t class.Plus && (t class.Minus && (t class.Star && (t class.Comparison && (t class.Equals && (t class.Reducing && (t class.Declares && (t class.Dots && (t class.Name && (t class.Number && (t class.Widest && (t class.Unknown && (t class.End)))))))))))))))))))))))))))) (both (t class.Shape) (t class.Loop && (t class.If && (t class.Let && (t class.Turn && (t class.Protocol && (t class.Call && (t class.Store && (t class.Element && (t class.OpenBracket && (t class.CloseBracket && (t class.OpenParenthesis && (t class.CloseParenthesis && (t class.OpenBrace && (t class.CloseBrace && (t class.Comma && (t class.Tilde && (t class.Plus && (t class.Minus && (t class.Star && (t class.Comparison && (t class.Equals && (t class.Reducing && (t class.Declares && (t class.Dots && (t class.Name && (t class.Number && (t class.Widest && (t class.Unknown && (t class.End))))))))))))))))))))))))))))) (both (t class.Fill) (t class.Shape && (t class.Loop && (t class.If && (t class.Let && (t class.Turn && (t class.Protocol && (t class.Call && (t class.Store && (t class.Element && (t class.OpenBracket && (t class.CloseBracket && (t class.OpenParenthesis && (t class.CloseParenthesis && (t class.OpenBrace && (t class.CloseBrace && (t class.Comma && (t class.Tilde && (t class.Plus && (t class.Minus && (t class.Star && (t class.Comparison && (t class.Equals && (t class.Reducing && (t class.Declares && (t class.Dots && (t class.Name && (t class.Number && (t class.Widest && (t class.Unknown && (t class.End)))))))))))))))))))))))))))))) (both (t class.OutOrTmp) (t class.Fill && (t class.Shape && (t class.Loop && (t class.If && (t class.Let && (t class.Turn && (t class.Protocol && (t class.Call && (t class.Store && (t class.Element && (t class.OpenBracket && (t class.CloseBracket && (t class.OpenParenthesis && (t class.CloseParenthesis && (t class.OpenBrace && (t class.CloseBrace && (t class.Comma && (t class.Tilde && (t class.Plus && (t class.Minus && (t class.Star && (t class.Comparison && (t class.Equals && (t class.Reducing && (t class.Declares && (t class.Dots && (t class.Name && (t class.Number && (t class.Widest && (t class.Unknown && (t class.End))))))))))))))))))))))))))))))) (both (t class.In) (t class.OutOrTmp && (t class.Fill && (t class.Shape && (t class.Loop && (t class.If && (t class.Let && (t class.Turn && (t class.Protocol && (t class.Call && (t class.Store && (t class.Element && (t class.OpenBracket && (t class.CloseBracket && (t class.OpenParenthesis && (t class.CloseParenthesis && (t class.OpenBrace && (t class.CloseBrace && (t class.Comma && (t class.Tilde && (t class.Plus && (t class.Minus && (t class.Star && (t class.Comparison && (t class.Equals && (t class.Reducing && (t class.Declares && (t class.Dots && (t class.Name && (t class.Number && (t class.Widest && (t class.Unknown && (t class.End)))))))))))))))))))))))))))))))) h).1).1).1).1).1).1).1).1).1).1).1).1).1).1).1).1).1).1).1).1).1).1).1).1).1).1).1).1).1).0
+at_each t h class.Widest = (both (t class.Widest) (t class.Unknown && (t class.End)) (both (t class.Number) (t class.Widest && (t class.Unknown && (t class.End))) (both (t class.Name) (t class.Number && (t class.Widest && (t class.Unknown && (t class.End)))) (both (t class.Dots) (t class.Name && (t class.Number && (t class.Widest && (t class.Unknown && (t class.End))))) (both (t class.Declares) (t class.Dots && (t class.Name && (t class.Number && (t class.Widest && (t class.Unknown && (t class.End)))))) (both (t class.Reducing) (t class.Declares && (t class.Dots && (t class.Name && (t class.Number && (t class.Widest && (t class.Unknown && (t class.End))))))) (both (t class.Equals) (t class.Reducing && (t class.Declares && (t class.Dots && (t class.Name && (t class.Number && (t class.Widest && (t class.Unknown && (t class.End)))))))) (both (t class.Comparison) (t class.Equals && (t class.Reducing && (t class.Declares && (t class.Dots && (t class.Name && (t class.Number && (t class.Widest && (t class.Unknown && (t class.End))))))))) (both (t class.Star) (t class.Comparison && (t class.Equals && (t class.Reducing && (t class.Declares && (t class.Dots && (t class.Name && (t class.Number && (t class.Widest && (t class.Unknown && (t class.End)))))))))) (both (t class.Minus) (t class.Star && (t class.Comparison && (t class.Equals && (t class.Reducing && (t class.Declares && (t class.Dots && (t class.Name && (t class.Number && (t class.Widest && (t class.Unknown && (t class.End))))))))))) (both (t class.Plus) (t class.Minus && (t class.Star && (t class.Comparison && (t class.Equals && (t class.Reducing && (t class.Declares && (t class.Dots && (t class.Name && (t class.Number && (t class.Widest && (t class.Unknown && (t class.End)))))))))))) (both (t class.Tilde) (t class.Plus && (t class.Minus && (t class.Star && (t class.Comparison && (t class.Equals && (t class.Reducing && (t class.Declares && (t class.Dots && (t class.Name && (t class.Number && (t class.Widest && (t class.Unknown && (t class.End))))))))))))) (both (t class.Comma) (t class.Tilde && (t class.Plus && (t class.Minus && (t class.Star && (t class.Comparison && (t class.Equals && (t class.Reducing && (t class.Declares && (t class.Dots && (t class.Name && (t class.Number && (t class.Widest && (t class.Unknown && (t class.End)))))))))))))) (both (t class.CloseBrace) (t class.Comma && (t class.Tilde && (t class.Plus && (t class.Minus && (t class.Star && (t class.Comparison && (t class.Equals && (t class.Reducing && (t class.Declares && (t class.Dots && (t class.Name && (t class.Number && (t class.Widest && (t class.Unknown && (t class.End))))))))))))))) (both (t class.OpenBrace) (t class.CloseBrace && (t class.Comma && (t class.Tilde && (t class.Plus && (t class.Minus && (t class.Star && (t class.Comparison && (t class.Equals && (t class.Reducing && (t class.Declares && (t class.Dots && (t class.Name && (t class.Number && (t class.Widest && (t class.Unknown && (t class.End)))))))))))))))) (both (t class.CloseParenthesis) (t class.OpenBrace && (t class.CloseBrace && (t class.Comma && (t class.Tilde && (t class.Plus && (t class.Minus && (t class.Star && (t class.Comparison && (t class.Equals && (t class.Reducing && (t class.Declares && (t class.Dots && (t class.Name && (t class.Number && (t class.Widest && (t class.Unknown && (t class.End))))))))))))))))) (both (t class.OpenParenthesis) (t class.CloseParenthesis && (t class.OpenBrace && (t class.CloseBrace && (t class.Comma && (t class.Tilde && (t class.Plus && (t class.Minus && (t class.Star && (t class.Comparison && (t class.Equals && (t class.Reducing && (t class.Declares && (t class.Dots && (t class.Name && (t class.Number && (t class.Widest && (t class.Unknown && (t class.End)))))))))))))))))) (both (t class.CloseBracket) (t class.OpenParenthesis && (t class.CloseParenthesis && (t class.OpenBrace && (t class.CloseBrace && (t class.Comma && (t class.Tilde && (t class.Plus && (t class.Minus && (t class.Star && (t class.Comparison && (t class.Equals && (t class.Reducing && (t class.Declares && (t class.Dots && (t class.Name && (t class.Number && (t class.Widest && (t class.Unknown && (t class.End))))))))))))))))))) (both (t class.OpenBracket) (t class.CloseBracket && (t class.OpenParenthesis && (t class.CloseParenthesis && (t class.OpenBrace && (t class.CloseBrace && (t class.Comma && (t class.Tilde && (t class.Plus && (t class.Minus && (t class.Star && (t class.Comparison && (t class.Equals && (t class.Reducing && (t class.Declares && (t class.Dots && (t class.Name && (t class.Number && (t class.Widest && (t class.Unknown && (t class.End)))))))))))))))))))) (both (t class.Element) (t class.OpenBracket && (t class.CloseBracket && (t class.OpenParenthesis && (t class.CloseParenthesis && (t class.OpenBrace && (t class.CloseBrace && (t class.Comma && (t class.Tilde && (t class.Plus && (t class.Minus && (t class.Star && (t class.Comparison && (t class.Equals && (t class.Reducing && (t class.Declares && (t class.Dots && (t class.Name && (t class.Number && (t class.Widest && (t class.Unknown && (t class.End))))))))))))))))))))) (both (t class.Store) (t class.Element && (t class.OpenBracket && (t class.CloseBracket && (t class.OpenParenthesis && (t class.CloseParenthesis && (t class.OpenBrace && (t class.CloseBrace && (t class.Comma && (t class.Tilde && (t class.Plus && (t class.Minus && (t class.Star && (t class.Comparison && (t class.Equals && (t class.Reducing && (t class.Declares && (t class.Dots && (t class.Name && (t class.Number && (t class.Widest && (t class.Unknown && (t class.End)))))))))))))))))))))) (both (t class.Call) (t class.Store && (t class.Element && (t class.OpenBracket && (t class.CloseBracket && (t class.OpenParenthesis && (t class.CloseParenthesis && (t class.OpenBrace && (t class.CloseBrace && (t class.Comma && (t class.Tilde && (t class.Plus && (t class.Minus && (t class.Star && (t class.Comparison && (t class.Equals && (t class.Reducing && (t class.Declares && (t class.Dots && (t class.Name && (t class.Number && (t class.Widest && (t class.Unknown && (t class.End))))))))))))))))))))))) (both (t class.Protocol) (t class.Call && (t class.Store && (t class.Element && (t class.OpenBracket && (t class.CloseBracket && (t class.OpenParenthesis && (t class.CloseParenthesis && (t class.OpenBrace && (t class.CloseBrace && (t class.Comma && (t class.Tilde && (t class.Plus && (t class.Minus && (t class.Star && (t class.Comparison && (t class.Equals && (t class.Reducing && (t class.Declares && (t class.Dots && (t class.Name && (t class.Number && (t class.Widest && (t class.Unknown && (t class.End)))))))))))))))))))))))) (both (t class.Turn) (t class.Protocol && (t class.Call && (t class.Store && (t class.Element && (t class.OpenBracket && (t class.CloseBracket && (t class.OpenParenthesis && (t class.CloseParenthesis && (t class.OpenBrace && (t class.CloseBrace && (t class.Comma && (t class.Tilde && (t class.Plus && (t class.Minus && (t class.Star && (t class.Comparison && (t class.Equals && (t class.Reducing && (t class.Declares && (t class.Dots && (t class.Name && (t class.Number && (t class.Widest && (t class.Unknown && (t class.End))))))))))))))))))))))))) (both (t class.Let) (t class.Turn && (t class.Protocol && (t class.Call && (t class.Store && (t class.Element && (t class.OpenBracket && (t class.CloseBracket && (t class.OpenParenthesis && (t class.CloseParenthesis && (t class.OpenBrace && (t class.CloseBrace && (t class.Comma && (t class.Tilde && (t class.Plus && (t class.Minus && (t class.Star && (t class.Comparison && (t class.Equals && (t class.Reducing && (t class.Declares && (t class.Dots && (t class.Name && (t class.Number && (t class.Widest && (t class.Unknown && (t class.End)))))))))))))))))))))))))) (both (t class.If) (t class.Let && (t class.Turn && (t class.Protocol && (t class.Call && (t class.Store && (t class.Element && (t class.OpenBracket && (t class.CloseBracket && (t class.OpenParenthesis && (t class.CloseParenthesis && (t class.OpenBrace && (t class.CloseBrace && (t class.Comma && (t class.Tilde && (t class.Plus && (t class.Minus && (t class.Star && (t class.Comparison && (t class.Equals && (t class.Reducing && (t class.Declares && (t class.Dots && (t class.Name && (t class.Number && (t class.Widest && (t class.Unknown && (t class.End))))))))))))))))))))))))))) (both (t class.Loop) (t class.If && (t class.Let && (t class.Turn && (t class.Protocol && (t class.Call && (t class.Store && (t class.Element && (t class.OpenBracket && (t class.CloseBracket && (t class.OpenParenthesis && (t class.CloseParenthesis && (t class.OpenBrace && (t class.CloseBrace && (t class.Comma && (t class.Tilde && (t class.Plus && (t class.Minus && (t class.Star && (t class.Comparison && (t class.Equals && (t class.Reducing && (t class.Declares && (t class.Dots && (t class.Name && (t class.Number && (t class.Widest && (t class.Unknown && (t class.End)))))))))))))))))))))))))))) (both (t class.Shape) (t class.Loop && (t class.If && (t class.Let && (t class.Turn && (t class.Protocol && (t class.Call && (t class.Store && (t class.Element && (t class.OpenBracket && (t class.CloseBracket && (t class.OpenParenthesis && (t class.CloseParenthesis && (t class.OpenBrace && (t class.CloseBrace && (t class.Comma && (t class.Tilde && (t class.Plus && (t class.Minus && (t class.Star && (t class.Comparison && (t class.Equals && (t class.Reducing && (t class.Declares && (t class.Dots && (t class.Name && (t class.Number && (t class.Widest && (t class.Unknown && (t class.End))))))))))))))))))))))))))))) (both (t class.Fill) (t class.Shape && (t class.Loop && (t class.If && (t class.Let && (t class.Turn && (t class.Protocol && (t class.Call && (t class.Store && (t class.Element && (t class.OpenBracket && (t class.CloseBracket && (t class.OpenParenthesis && (t class.CloseParenthesis && (t class.OpenBrace && (t class.CloseBrace && (t class.Comma && (t class.Tilde && (t class.Plus && (t class.Minus && (t class.Star && (t class.Comparison && (t class.Equals && (t class.Reducing && (t class.Declares && (t class.Dots && (t class.Name && (t class.Number && (t class.Widest && (t class.Unknown && (t class.End)))))))))))))))))))))))))))))) (both (t class.OutOrTmp) (t class.Fill && (t class.Shape && (t class.Loop && (t class.If && (t class.Let && (t class.Turn && (t class.Protocol && (t class.Call && (t class.Store && (t class.Element && (t class.OpenBracket && (t class.CloseBracket && (t class.OpenParenthesis && (t class.CloseParenthesis && (t class.OpenBrace && (t class.CloseBrace && (t class.Comma && (t class.Tilde && (t class.Plus && (t class.Minus && (t class.Star && (t class.Comparison && (t class.Equals && (t class.Reducing && (t class.Declares && (t class.Dots && (t class.Name && (t class.Number && (t class.Widest && (t class.Unknown && (t class.End))))))))))))))))))))))))))))))) (both (t class.In) (t class.OutOrTmp && (t class.Fill && (t class.Shape && (t class.Loop && (t class.If && (t class.Let && (t class.Turn && (t class.Protocol && (t class.Call && (t class.Store && (t class.Element && (t class.OpenBracket && (t class.CloseBracket && (t class.OpenParenthesis && (t class.CloseParenthesis && (t class.OpenBrace && (t class.CloseBrace && (t class.Comma && (t class.Tilde && (t class.Plus && (t class.Minus && (t class.Star && (t class.Comparison && (t class.Equals && (t class.Reducing && (t class.Declares && (t class.Dots && (t class.Name && (t class.Number && (t class.Widest && (t class.Unknown && (t class.End)))))))))))))))))))))))))))))))) h).1).1).1).1).1).1).1).1).1).1).1).1).1).1).1).1).1).1).1).1).1).1).1).1).1).1).1).1).1).1).0
+at_each t h class.Unknown = (both (t class.Unknown) (t class.End) (both (t class.Widest) (t class.Unknown && (t class.End)) (both (t class.Number) (t class.Widest && (t class.Unknown && (t class.End))) (both (t class.Name) (t class.Number && (t class.Widest && (t class.Unknown && (t class.End)))) (both (t class.Dots) (t class.Name && (t class.Number && (t class.Widest && (t class.Unknown && (t class.End))))) (both (t class.Declares) (t class.Dots && (t class.Name && (t class.Number && (t class.Widest && (t class.Unknown && (t class.End)))))) (both (t class.Reducing) (t class.Declares && (t class.Dots && (t class.Name && (t class.Number && (t class.Widest && (t class.Unknown && (t class.End))))))) (both (t class.Equals) (t class.Reducing && (t class.Declares && (t class.Dots && (t class.Name && (t class.Number && (t class.Widest && (t class.Unknown && (t class.End)))))))) (both (t class.Comparison) (t class.Equals && (t class.Reducing && (t class.Declares && (t class.Dots && (t class.Name && (t class.Number && (t class.Widest && (t class.Unknown && (t class.End))))))))) (both (t class.Star) (t class.Comparison && (t class.Equals && (t class.Reducing && (t class.Declares && (t class.Dots && (t class.Name && (t class.Number && (t class.Widest && (t class.Unknown && (t class.End)))))))))) (both (t class.Minus) (t class.Star && (t class.Comparison && (t class.Equals && (t class.Reducing && (t class.Declares && (t class.Dots && (t class.Name && (t class.Number && (t class.Widest && (t class.Unknown && (t class.End))))))))))) (both (t class.Plus) (t class.Minus && (t class.Star && (t class.Comparison && (t class.Equals && (t class.Reducing && (t class.Declares && (t class.Dots && (t class.Name && (t class.Number && (t class.Widest && (t class.Unknown && (t class.End)))))))))))) (both (t class.Tilde) (t class.Plus && (t class.Minus && (t class.Star && (t class.Comparison && (t class.Equals && (t class.Reducing && (t class.Declares && (t class.Dots && (t class.Name && (t class.Number && (t class.Widest && (t class.Unknown && (t class.End))))))))))))) (both (t class.Comma) (t class.Tilde && (t class.Plus && (t class.Minus && (t class.Star && (t class.Comparison && (t class.Equals && (t class.Reducing && (t class.Declares && (t class.Dots && (t class.Name && (t class.Number && (t class.Widest && (t class.Unknown && (t class.End)))))))))))))) (both (t class.CloseBrace) (t class.Comma && (t class.Tilde && (t class.Plus && (t class.Minus && (t class.Star && (t class.Comparison && (t class.Equals && (t class.Reducing && (t class.Declares && (t class.Dots && (t class.Name && (t class.Number && (t class.Widest && (t class.Unknown && (t class.End))))))))))))))) (both (t class.OpenBrace) (t class.CloseBrace && (t class.Comma && (t class.Tilde && (t class.Plus && (t class.Minus && (t class.Star && (t class.Comparison && (t class.Equals && (t class.Reducing && (t class.Declares && (t class.Dots && (t class.Name && (t class.Number && (t class.Widest && (t class.Unknown && (t class.End)))))))))))))))) (both (t class.CloseParenthesis) (t class.OpenBrace && (t class.CloseBrace && (t class.Comma && (t class.Tilde && (t class.Plus && (t class.Minus && (t class.Star && (t class.Comparison && (t class.Equals && (t class.Reducing && (t class.Declares && (t class.Dots && (t class.Name && (t class.Number && (t class.Widest && (t class.Unknown && (t class.End))))))))))))))))) (both (t class.OpenParenthesis) (t class.CloseParenthesis && (t class.OpenBrace && (t class.CloseBrace && (t class.Comma && (t class.Tilde && (t class.Plus && (t class.Minus && (t class.Star && (t class.Comparison && (t class.Equals && (t class.Reducing && (t class.Declares && (t class.Dots && (t class.Name && (t class.Number && (t class.Widest && (t class.Unknown && (t class.End)))))))))))))))))) (both (t class.CloseBracket) (t class.OpenParenthesis && (t class.CloseParenthesis && (t class.OpenBrace && (t class.CloseBrace && (t class.Comma && (t class.Tilde && (t class.Plus && (t class.Minus && (t class.Star && (t class.Comparison && (t class.Equals && (t class.Reducing && (t class.Declares && (t class.Dots && (t class.Name && (t class.Number && (t class.Widest && (t class.Unknown && (t class.End))))))))))))))))))) (both (t class.OpenBracket) (t class.CloseBracket && (t class.OpenParenthesis && (t class.CloseParenthesis && (t class.OpenBrace && (t class.CloseBrace && (t class.Comma && (t class.Tilde && (t class.Plus && (t class.Minus && (t class.Star && (t class.Comparison && (t class.Equals && (t class.Reducing && (t class.Declares && (t class.Dots && (t class.Name && (t class.Number && (t class.Widest && (t class.Unknown && (t class.End)))))))))))))))))))) (both (t class.Element) (t class.OpenBracket && (t class.CloseBracket && (t class.OpenParenthesis && (t class.CloseParenthesis && (t class.OpenBrace && (t class.CloseBrace && (t class.Comma && (t class.Tilde && (t class.Plus && (t class.Minus && (t class.Star && (t class.Comparison && (t class.Equals && (t class.Reducing && (t class.Declares && (t class.Dots && (t class.Name && (t class.Number && (t class.Widest && (t class.Unknown && (t class.End))))))))))))))))))))) (both (t class.Store) (t class.Element && (t class.OpenBracket && (t class.CloseBracket && (t class.OpenParenthesis && (t class.CloseParenthesis && (t class.OpenBrace && (t class.CloseBrace && (t class.Comma && (t class.Tilde && (t class.Plus && (t class.Minus && (t class.Star && (t class.Comparison && (t class.Equals && (t class.Reducing && (t class.Declares && (t class.Dots && (t class.Name && (t class.Number && (t class.Widest && (t class.Unknown && (t class.End)))))))))))))))))))))) (both (t class.Call) (t class.Store && (t class.Element && (t class.OpenBracket && (t class.CloseBracket && (t class.OpenParenthesis && (t class.CloseParenthesis && (t class.OpenBrace && (t class.CloseBrace && (t class.Comma && (t class.Tilde && (t class.Plus && (t class.Minus && (t class.Star && (t class.Comparison && (t class.Equals && (t class.Reducing && (t class.Declares && (t class.Dots && (t class.Name && (t class.Number && (t class.Widest && (t class.Unknown && (t class.End))))))))))))))))))))))) (both (t class.Protocol) (t class.Call && (t class.Store && (t class.Element && (t class.OpenBracket && (t class.CloseBracket && (t class.OpenParenthesis && (t class.CloseParenthesis && (t class.OpenBrace && (t class.CloseBrace && (t class.Comma && (t class.Tilde && (t class.Plus && (t class.Minus && (t class.Star && (t class.Comparison && (t class.Equals && (t class.Reducing && (t class.Declares && (t class.Dots && (t class.Name && (t class.Number && (t class.Widest && (t class.Unknown && (t class.End)))))))))))))))))))))))) (both (t class.Turn) (t class.Protocol && (t class.Call && (t class.Store && (t class.Element && (t class.OpenBracket && (t class.CloseBracket && (t class.OpenParenthesis && (t class.CloseParenthesis && (t class.OpenBrace && (t class.CloseBrace && (t class.Comma && (t class.Tilde && (t class.Plus && (t class.Minus && (t class.Star && (t class.Comparison && (t class.Equals && (t class.Reducing && (t class.Declares && (t class.Dots && (t class.Name && (t class.Number && (t class.Widest && (t class.Unknown && (t class.End))))))))))))))))))))))))) (both (t class.Let) (t class.Turn && (t class.Protocol && (t class.Call && (t class.Store && (t class.Element && (t class.OpenBracket && (t class.CloseBracket && (t class.OpenParenthesis && (t class.CloseParenthesis && (t class.OpenBrace && (t class.CloseBrace && (t class.Comma && (t class.Tilde && (t class.Plus && (t class.Minus && (t class.Star && (t class.Comparison && (t class.Equals && (t class.Reducing && (t class.Declares && (t class.Dots && (t class.Name && (t class.Number && (t class.Widest && (t class.Unknown && (t class.End)))))))))))))))))))))))))) (both (t class.If) (t class.Let && (t class.Turn && (t class.Protocol && (t class.Call && (t class.Store && (t class.Element && (t class.OpenBracket && (t class.CloseBracket && (t class.OpenParenthesis && (t class.CloseParenthesis && (t class.OpenBrace && (t class.CloseBrace && (t class.Comma && (t class.Tilde && (t class.Plus && (t class.Minus && (t class.Star && (t class.Comparison && (t class.Equals && (t class.Reducing && (t class.Declares && (t class.Dots && (t class.Name && (t class.Number && (t class.Widest && (t class.Unknown && (t class.End))))))))))))))))))))))))))) (both (t class.Loop) (t class.If && (t class.Let && (t class.Turn && (t class.Protocol && (t class.Call && (t class.Store && (t class.Element && (t class.OpenBracket && (t class.CloseBracket && (t class.OpenParenthesis && (t class.CloseParenthesis && (t class.OpenBrace && (t class.CloseBrace && (t class.Comma && (t class.Tilde && (t class.Plus && (t class.Minus && (t class.Star && (t class.Comparison && (t class.Equals && (t class.Reducing && (t class.Declares && (t class.Dots && (t class.Name && (t class.Number && (t class.Widest && (t class.Unknown && (t class.End)))))))))))))))))))))))))))) (both (t class.Shape) (t class.Loop && (t class.If && (t class.Let && (t class.Turn && (t class.Protocol && (t class.Call && (t class.Store && (t class.Element && (t class.OpenBracket && (t class.CloseBracket && (t class.OpenParenthesis && (t class.CloseParenthesis && (t class.OpenBrace && (t class.CloseBrace && (t class.Comma && (t class.Tilde && (t class.Plus && (t class.Minus && (t class.Star && (t class.Comparison && (t class.Equals && (t class.Reducing && (t class.Declares && (t class.Dots && (t class.Name && (t class.Number && (t class.Widest && (t class.Unknown && (t class.End))))))))))))))))))))))))))))) (both (t class.Fill) (t class.Shape && (t class.Loop && (t class.If && (t class.Let && (t class.Turn && (t class.Protocol && (t class.Call && (t class.Store && (t class.Element && (t class.OpenBracket && (t class.CloseBracket && (t class.OpenParenthesis && (t class.CloseParenthesis && (t class.OpenBrace && (t class.CloseBrace && (t class.Comma && (t class.Tilde && (t class.Plus && (t class.Minus && (t class.Star && (t class.Comparison && (t class.Equals && (t class.Reducing && (t class.Declares && (t class.Dots && (t class.Name && (t class.Number && (t class.Widest && (t class.Unknown && (t class.End)))))))))))))))))))))))))))))) (both (t class.OutOrTmp) (t class.Fill && (t class.Shape && (t class.Loop && (t class.If && (t class.Let && (t class.Turn && (t class.Protocol && (t class.Call && (t class.Store && (t class.Element && (t class.OpenBracket && (t class.CloseBracket && (t class.OpenParenthesis && (t class.CloseParenthesis && (t class.OpenBrace && (t class.CloseBrace && (t class.Comma && (t class.Tilde && (t class.Plus && (t class.Minus && (t class.Star && (t class.Comparison && (t class.Equals && (t class.Reducing && (t class.Declares && (t class.Dots && (t class.Name && (t class.Number && (t class.Widest && (t class.Unknown && (t class.End))))))))))))))))))))))))))))))) (both (t class.In) (t class.OutOrTmp && (t class.Fill && (t class.Shape && (t class.Loop && (t class.If && (t class.Let && (t class.Turn && (t class.Protocol && (t class.Call && (t class.Store && (t class.Element && (t class.OpenBracket && (t class.CloseBracket && (t class.OpenParenthesis && (t class.CloseParenthesis && (t class.OpenBrace && (t class.CloseBrace && (t class.Comma && (t class.Tilde && (t class.Plus && (t class.Minus && (t class.Star && (t class.Comparison && (t class.Equals && (t class.Reducing && (t class.Declares && (t class.Dots && (t class.Name && (t class.Number && (t class.Widest && (t class.Unknown && (t class.End)))))))))))))))))))))))))))))))) h).1).1).1).1).1).1).1).1).1).1).1).1).1).1).1).1).1).1).1).1).1).1).1).1).1).1).1).1).1).1).1).0
+at_each t h class.End = (both (t class.Unknown) (t class.End) (both (t class.Widest) (t class.Unknown && (t class.End)) (both (t class.Number) (t class.Widest && (t class.Unknown && (t class.End))) (both (t class.Name) (t class.Number && (t class.Widest && (t class.Unknown && (t class.End)))) (both (t class.Dots) (t class.Name && (t class.Number && (t class.Widest && (t class.Unknown && (t class.End))))) (both (t class.Declares) (t class.Dots && (t class.Name && (t class.Number && (t class.Widest && (t class.Unknown && (t class.End)))))) (both (t class.Reducing) (t class.Declares && (t class.Dots && (t class.Name && (t class.Number && (t class.Widest && (t class.Unknown && (t class.End))))))) (both (t class.Equals) (t class.Reducing && (t class.Declares && (t class.Dots && (t class.Name && (t class.Number && (t class.Widest && (t class.Unknown && (t class.End)))))))) (both (t class.Comparison) (t class.Equals && (t class.Reducing && (t class.Declares && (t class.Dots && (t class.Name && (t class.Number && (t class.Widest && (t class.Unknown && (t class.End))))))))) (both (t class.Star) (t class.Comparison && (t class.Equals && (t class.Reducing && (t class.Declares && (t class.Dots && (t class.Name && (t class.Number && (t class.Widest && (t class.Unknown && (t class.End)))))))))) (both (t class.Minus) (t class.Star && (t class.Comparison && (t class.Equals && (t class.Reducing && (t class.Declares && (t class.Dots && (t class.Name && (t class.Number && (t class.Widest && (t class.Unknown && (t class.End))))))))))) (both (t class.Plus) (t class.Minus && (t class.Star && (t class.Comparison && (t class.Equals && (t class.Reducing && (t class.Declares && (t class.Dots && (t class.Name && (t class.Number && (t class.Widest && (t class.Unknown && (t class.End)))))))))))) (both (t class.Tilde) (t class.Plus && (t class.Minus && (t class.Star && (t class.Comparison && (t class.Equals && (t class.Reducing && (t class.Declares && (t class.Dots && (t class.Name && (t class.Number && (t class.Widest && (t class.Unknown && (t class.End))))))))))))) (both (t class.Comma) (t class.Tilde && (t class.Plus && (t class.Minus && (t class.Star && (t class.Comparison && (t class.Equals && (t class.Reducing && (t class.Declares && (t class.Dots && (t class.Name && (t class.Number && (t class.Widest && (t class.Unknown && (t class.End)))))))))))))) (both (t class.CloseBrace) (t class.Comma && (t class.Tilde && (t class.Plus && (t class.Minus && (t class.Star && (t class.Comparison && (t class.Equals && (t class.Reducing && (t class.Declares && (t class.Dots && (t class.Name && (t class.Number && (t class.Widest && (t class.Unknown && (t class.End))))))))))))))) (both (t class.OpenBrace) (t class.CloseBrace && (t class.Comma && (t class.Tilde && (t class.Plus && (t class.Minus && (t class.Star && (t class.Comparison && (t class.Equals && (t class.Reducing && (t class.Declares && (t class.Dots && (t class.Name && (t class.Number && (t class.Widest && (t class.Unknown && (t class.End)))))))))))))))) (both (t class.CloseParenthesis) (t class.OpenBrace && (t class.CloseBrace && (t class.Comma && (t class.Tilde && (t class.Plus && (t class.Minus && (t class.Star && (t class.Comparison && (t class.Equals && (t class.Reducing && (t class.Declares && (t class.Dots && (t class.Name && (t class.Number && (t class.Widest && (t class.Unknown && (t class.End))))))))))))))))) (both (t class.OpenParenthesis) (t class.CloseParenthesis && (t class.OpenBrace && (t class.CloseBrace && (t class.Comma && (t class.Tilde && (t class.Plus && (t class.Minus && (t class.Star && (t class.Comparison && (t class.Equals && (t class.Reducing && (t class.Declares && (t class.Dots && (t class.Name && (t class.Number && (t class.Widest && (t class.Unknown && (t class.End)))))))))))))))))) (both (t class.CloseBracket) (t class.OpenParenthesis && (t class.CloseParenthesis && (t class.OpenBrace && (t class.CloseBrace && (t class.Comma && (t class.Tilde && (t class.Plus && (t class.Minus && (t class.Star && (t class.Comparison && (t class.Equals && (t class.Reducing && (t class.Declares && (t class.Dots && (t class.Name && (t class.Number && (t class.Widest && (t class.Unknown && (t class.End))))))))))))))))))) (both (t class.OpenBracket) (t class.CloseBracket && (t class.OpenParenthesis && (t class.CloseParenthesis && (t class.OpenBrace && (t class.CloseBrace && (t class.Comma && (t class.Tilde && (t class.Plus && (t class.Minus && (t class.Star && (t class.Comparison && (t class.Equals && (t class.Reducing && (t class.Declares && (t class.Dots && (t class.Name && (t class.Number && (t class.Widest && (t class.Unknown && (t class.End)))))))))))))))))))) (both (t class.Element) (t class.OpenBracket && (t class.CloseBracket && (t class.OpenParenthesis && (t class.CloseParenthesis && (t class.OpenBrace && (t class.CloseBrace && (t class.Comma && (t class.Tilde && (t class.Plus && (t class.Minus && (t class.Star && (t class.Comparison && (t class.Equals && (t class.Reducing && (t class.Declares && (t class.Dots && (t class.Name && (t class.Number && (t class.Widest && (t class.Unknown && (t class.End))))))))))))))))))))) (both (t class.Store) (t class.Element && (t class.OpenBracket && (t class.CloseBracket && (t class.OpenParenthesis && (t class.CloseParenthesis && (t class.OpenBrace && (t class.CloseBrace && (t class.Comma && (t class.Tilde && (t class.Plus && (t class.Minus && (t class.Star && (t class.Comparison && (t class.Equals && (t class.Reducing && (t class.Declares && (t class.Dots && (t class.Name && (t class.Number && (t class.Widest && (t class.Unknown && (t class.End)))))))))))))))))))))) (both (t class.Call) (t class.Store && (t class.Element && (t class.OpenBracket && (t class.CloseBracket && (t class.OpenParenthesis && (t class.CloseParenthesis && (t class.OpenBrace && (t class.CloseBrace && (t class.Comma && (t class.Tilde && (t class.Plus && (t class.Minus && (t class.Star && (t class.Comparison && (t class.Equals && (t class.Reducing && (t class.Declares && (t class.Dots && (t class.Name && (t class.Number && (t class.Widest && (t class.Unknown && (t class.End))))))))))))))))))))))) (both (t class.Protocol) (t class.Call && (t class.Store && (t class.Element && (t class.OpenBracket && (t class.CloseBracket && (t class.OpenParenthesis && (t class.CloseParenthesis && (t class.OpenBrace && (t class.CloseBrace && (t class.Comma && (t class.Tilde && (t class.Plus && (t class.Minus && (t class.Star && (t class.Comparison && (t class.Equals && (t class.Reducing && (t class.Declares && (t class.Dots && (t class.Name && (t class.Number && (t class.Widest && (t class.Unknown && (t class.End)))))))))))))))))))))))) (both (t class.Turn) (t class.Protocol && (t class.Call && (t class.Store && (t class.Element && (t class.OpenBracket && (t class.CloseBracket && (t class.OpenParenthesis && (t class.CloseParenthesis && (t class.OpenBrace && (t class.CloseBrace && (t class.Comma && (t class.Tilde && (t class.Plus && (t class.Minus && (t class.Star && (t class.Comparison && (t class.Equals && (t class.Reducing && (t class.Declares && (t class.Dots && (t class.Name && (t class.Number && (t class.Widest && (t class.Unknown && (t class.End))))))))))))))))))))))))) (both (t class.Let) (t class.Turn && (t class.Protocol && (t class.Call && (t class.Store && (t class.Element && (t class.OpenBracket && (t class.CloseBracket && (t class.OpenParenthesis && (t class.CloseParenthesis && (t class.OpenBrace && (t class.CloseBrace && (t class.Comma && (t class.Tilde && (t class.Plus && (t class.Minus && (t class.Star && (t class.Comparison && (t class.Equals && (t class.Reducing && (t class.Declares && (t class.Dots && (t class.Name && (t class.Number && (t class.Widest && (t class.Unknown && (t class.End)))))))))))))))))))))))))) (both (t class.If) (t class.Let && (t class.Turn && (t class.Protocol && (t class.Call && (t class.Store && (t class.Element && (t class.OpenBracket && (t class.CloseBracket && (t class.OpenParenthesis && (t class.CloseParenthesis && (t class.OpenBrace && (t class.CloseBrace && (t class.Comma && (t class.Tilde && (t class.Plus && (t class.Minus && (t class.Star && (t class.Comparison && (t class.Equals && (t class.Reducing && (t class.Declares && (t class.Dots && (t class.Name && (t class.Number && (t class.Widest && (t class.Unknown && (t class.End))))))))))))))))))))))))))) (both (t class.Loop) (t class.If && (t class.Let && (t class.Turn && (t class.Protocol && (t class.Call && (t class.Store && (t class.Element && (t class.OpenBracket && (t class.CloseBracket && (t class.OpenParenthesis && (t class.CloseParenthesis && (t class.OpenBrace && (t class.CloseBrace && (t class.Comma && (t class.Tilde && (t class.Plus && (t class.Minus && (t class.Star && (t class.Comparison && (t class.Equals && (t class.Reducing && (t class.Declares && (t class.Dots && (t class.Name && (t class.Number && (t class.Widest && (t class.Unknown && (t class.End)))))))))))))))))))))))))))) (both (t class.Shape) (t class.Loop && (t class.If && (t class.Let && (t class.Turn && (t class.Protocol && (t class.Call && (t class.Store && (t class.Element && (t class.OpenBracket && (t class.CloseBracket && (t class.OpenParenthesis && (t class.CloseParenthesis && (t class.OpenBrace && (t class.CloseBrace && (t class.Comma && (t class.Tilde && (t class.Plus && (t class.Minus && (t class.Star && (t class.Comparison && (t class.Equals && (t class.Reducing && (t class.Declares && (t class.Dots && (t class.Name && (t class.Number && (t class.Widest && (t class.Unknown && (t class.End))))))))))))))))))))))))))))) (both (t class.Fill) (t class.Shape && (t class.Loop && (t class.If && (t class.Let && (t class.Turn && (t class.Protocol && (t class.Call && (t class.Store && (t class.Element && (t class.OpenBracket && (t class.CloseBracket && (t class.OpenParenthesis && (t class.CloseParenthesis && (t class.OpenBrace && (t class.CloseBrace && (t class.Comma && (t class.Tilde && (t class.Plus && (t class.Minus && (t class.Star && (t class.Comparison && (t class.Equals && (t class.Reducing && (t class.Declares && (t class.Dots && (t class.Name && (t class.Number && (t class.Widest && (t class.Unknown && (t class.End)))))))))))))))))))))))))))))) (both (t class.OutOrTmp) (t class.Fill && (t class.Shape && (t class.Loop && (t class.If && (t class.Let && (t class.Turn && (t class.Protocol && (t class.Call && (t class.Store && (t class.Element && (t class.OpenBracket && (t class.CloseBracket && (t class.OpenParenthesis && (t class.CloseParenthesis && (t class.OpenBrace && (t class.CloseBrace && (t class.Comma && (t class.Tilde && (t class.Plus && (t class.Minus && (t class.Star && (t class.Comparison && (t class.Equals && (t class.Reducing && (t class.Declares && (t class.Dots && (t class.Name && (t class.Number && (t class.Widest && (t class.Unknown && (t class.End))))))))))))))))))))))))))))))) (both (t class.In) (t class.OutOrTmp && (t class.Fill && (t class.Shape && (t class.Loop && (t class.If && (t class.Let && (t class.Turn && (t class.Protocol && (t class.Call && (t class.Store && (t class.Element && (t class.OpenBracket && (t class.CloseBracket && (t class.OpenParenthesis && (t class.CloseParenthesis && (t class.OpenBrace && (t class.CloseBrace && (t class.Comma && (t class.Tilde && (t class.Plus && (t class.Minus && (t class.Star && (t class.Comparison && (t class.Equals && (t class.Reducing && (t class.Declares && (t class.Dots && (t class.Name && (t class.Number && (t class.Widest && (t class.Unknown && (t class.End)))))))))))))))))))))))))))))))) h).1).1).1).1).1).1).1).1).1).1).1).1).1).1).1).1).1).1).1).1).1).1).1).1).1).1).1).1).1).1).1).1
+
+-- ---- forms by number
+
+abbrev number_of : Form → ℕ
+number_of form.InputHeader = 0
+number_of form.OtherHeader = 1
+number_of form.Format = 2
+number_of form.StoreWord = 3
+number_of form.Fill = 4
+number_of form.Shape = 5
+number_of form.Extent = 6
+number_of form.PlusInt = 7
+number_of form.MinusInt = 8
+number_of form.Magnitude = 9
+number_of form.WidestMagnitude = 10
+number_of form.Loop = 11
+number_of form.If = 12
+number_of form.Let = 13
+number_of form.Block = 14
+number_of form.Turn = 15
+number_of form.Named = 16
+number_of form.Turns = 17
+number_of form.Range = 18
+number_of form.Body = 19
+number_of form.Stmts = 20
+number_of form.Declaration = 21
+number_of form.Update = 22
+number_of form.Reducing = 23
+number_of form.Putting = 24
+number_of form.Plains = 25
+number_of form.PlainList = 26
+number_of form.NextPlain = 27
+number_of form.Constant = 28
+number_of form.Shifted = 29
+number_of form.PlusOffset = 30
+number_of form.MinusOffset = 31
+number_of form.Expr = 32
+number_of form.Compared = 33
+number_of form.Sum = 34
+number_of form.PlusTerm = 35
+number_of form.MinusTerm = 36
+number_of form.Term = 37
+number_of form.NextUnary = 38
+number_of form.NumberUnary = 39
+number_of form.OtherUnary = 40
+number_of form.Negation = 41
+number_of form.NamedOperand = 42
+number_of form.Parentheses = 43
+number_of form.Call = 44
+number_of form.NegatedNumber = 45
+number_of form.NegatedWidest = 46
+number_of form.NegatedOperand = 47
+number_of form.Pair = 48
+number_of form.Access = 49
+number_of form.Indices = 50
+number_of form.IndexList = 51
+number_of form.NextIndex = 52
+number_of form.BareIndex = 53
+number_of form.ProtocolIndex = 54
+number_of form.PlainCore = 55
+number_of form.LooseCore = 56
+number_of form.LooseConstant = 57
+number_of form.LooseNamed = 58
+number_of form.PlusRest = 59
+number_of form.MinusRest = 60
+number_of form.AddedNumber = 61
+number_of form.AddedName = 62
+
+abbrev forms : List Form
+forms = form.InputHeader ∷ form.OtherHeader ∷ form.Format ∷ form.StoreWord ∷ form.Fill ∷ form.Shape ∷ form.Extent ∷ form.PlusInt ∷ form.MinusInt ∷ form.Magnitude ∷ form.WidestMagnitude ∷ form.Loop ∷ form.If ∷ form.Let ∷ form.Block ∷ form.Turn ∷ form.Named ∷ form.Turns ∷ form.Range ∷ form.Body ∷ form.Stmts ∷ form.Declaration ∷ form.Update ∷ form.Reducing ∷ form.Putting ∷ form.Plains ∷ form.PlainList ∷ form.NextPlain ∷ form.Constant ∷ form.Shifted ∷ form.PlusOffset ∷ form.MinusOffset ∷ form.Expr ∷ form.Compared ∷ form.Sum ∷ form.PlusTerm ∷ form.MinusTerm ∷ form.Term ∷ form.NextUnary ∷ form.NumberUnary ∷ form.OtherUnary ∷ form.Negation ∷ form.NamedOperand ∷ form.Parentheses ∷ form.Call ∷ form.NegatedNumber ∷ form.NegatedWidest ∷ form.NegatedOperand ∷ form.Pair ∷ form.Access ∷ form.Indices ∷ form.IndexList ∷ form.NextIndex ∷ form.BareIndex ∷ form.ProtocolIndex ∷ form.PlainCore ∷ form.LooseCore ∷ form.LooseConstant ∷ form.LooseNamed ∷ form.PlusRest ∷ form.MinusRest ∷ form.AddedNumber ∷ form.AddedName ∷ []
+
+numbered : (f : Form) → slice_get forms (number_of f) ≡ Some f
+numbered form.InputHeader = refl
+numbered form.OtherHeader = refl
+numbered form.Format = refl
+numbered form.StoreWord = refl
+numbered form.Fill = refl
+numbered form.Shape = refl
+numbered form.Extent = refl
+numbered form.PlusInt = refl
+numbered form.MinusInt = refl
+numbered form.Magnitude = refl
+numbered form.WidestMagnitude = refl
+numbered form.Loop = refl
+numbered form.If = refl
+numbered form.Let = refl
+numbered form.Block = refl
+numbered form.Turn = refl
+numbered form.Named = refl
+numbered form.Turns = refl
+numbered form.Range = refl
+numbered form.Body = refl
+numbered form.Stmts = refl
+numbered form.Declaration = refl
+numbered form.Update = refl
+numbered form.Reducing = refl
+numbered form.Putting = refl
+numbered form.Plains = refl
+numbered form.PlainList = refl
+numbered form.NextPlain = refl
+numbered form.Constant = refl
+numbered form.Shifted = refl
+numbered form.PlusOffset = refl
+numbered form.MinusOffset = refl
+numbered form.Expr = refl
+numbered form.Compared = refl
+numbered form.Sum = refl
+numbered form.PlusTerm = refl
+numbered form.MinusTerm = refl
+numbered form.Term = refl
+numbered form.NextUnary = refl
+numbered form.NumberUnary = refl
+numbered form.OtherUnary = refl
+numbered form.Negation = refl
+numbered form.NamedOperand = refl
+numbered form.Parentheses = refl
+numbered form.Call = refl
+numbered form.NegatedNumber = refl
+numbered form.NegatedWidest = refl
+numbered form.NegatedOperand = refl
+numbered form.Pair = refl
+numbered form.Access = refl
+numbered form.Indices = refl
+numbered form.IndexList = refl
+numbered form.NextIndex = refl
+numbered form.BareIndex = refl
+numbered form.ProtocolIndex = refl
+numbered form.PlainCore = refl
+numbered form.LooseCore = refl
+numbered form.LooseConstant = refl
+numbered form.LooseNamed = refl
+numbered form.PlusRest = refl
+numbered form.MinusRest = refl
+numbered form.AddedNumber = refl
+numbered form.AddedName = refl
+
+abbrev is_form : Option Form → Form → Bool
+is_form None f = false
+is_form (Some g) f = number_of g == number_of f
+
+same_form : (o : Option Form) (f : Form) → is_form o f ≡ true → o ≡ Some f
+same_form None f h = impossible h
+same_form (Some g) f h = sym (numbered g) ∙ ap (λ n. slice_get forms n) (eqb-true (number_of g) (number_of f) h) ∙ numbered f
+
+-- ---- the table
+
+-- a form is chosen by each class that begins it
+pub chosen : (f : Form) (c : Class) → row_starts (row_of f) c ≡ true → form_at (phrase_of f) c ≡ Some f
+chosen f c h = same_form (form_at (phrase_of f) c) f (implied (row_starts (row_of f) c) (is_form (form_at (phrase_of f) c) f) (at_each (λ c. not (row_starts (row_of f) c) || is_form (form_at (phrase_of f) c) f) (holds f) c) h)
+  where
+    holds : (f : Form) → every (λ c. not (row_starts (row_of f) c) || is_form (form_at (phrase_of f) c) f) ≡ true
+    holds form.InputHeader = refl
+    holds form.OtherHeader = refl
+    holds form.Format = refl
+    holds form.StoreWord = refl
+    holds form.Fill = refl
+    holds form.Shape = refl
+    holds form.Extent = refl
+    holds form.PlusInt = refl
+    holds form.MinusInt = refl
+    holds form.Magnitude = refl
+    holds form.WidestMagnitude = refl
+    holds form.Loop = refl
+    holds form.If = refl
+    holds form.Let = refl
+    holds form.Block = refl
+    holds form.Turn = refl
+    holds form.Named = refl
+    holds form.Turns = refl
+    holds form.Range = refl
+    holds form.Body = refl
+    holds form.Stmts = refl
+    holds form.Declaration = refl
+    holds form.Update = refl
+    holds form.Reducing = refl
+    holds form.Putting = refl
+    holds form.Plains = refl
+    holds form.PlainList = refl
+    holds form.NextPlain = refl
+    holds form.Constant = refl
+    holds form.Shifted = refl
+    holds form.PlusOffset = refl
+    holds form.MinusOffset = refl
+    holds form.Expr = refl
+    holds form.Compared = refl
+    holds form.Sum = refl
+    holds form.PlusTerm = refl
+    holds form.MinusTerm = refl
+    holds form.Term = refl
+    holds form.NextUnary = refl
+    holds form.NumberUnary = refl
+    holds form.OtherUnary = refl
+    holds form.Negation = refl
+    holds form.NamedOperand = refl
+    holds form.Parentheses = refl
+    holds form.Call = refl
+    holds form.NegatedNumber = refl
+    holds form.NegatedWidest = refl
+    holds form.NegatedOperand = refl
+    holds form.Pair = refl
+    holds form.Access = refl
+    holds form.Indices = refl
+    holds form.IndexList = refl
+    holds form.NextIndex = refl
+    holds form.BareIndex = refl
+    holds form.ProtocolIndex = refl
+    holds form.PlainCore = refl
+    holds form.LooseCore = refl
+    holds form.LooseConstant = refl
+    holds form.LooseNamed = refl
+    holds form.PlusRest = refl
+    holds form.MinusRest = refl
+    holds form.AddedNumber = refl
+    holds form.AddedName = refl
+
+-- a form without a token is chosen always
+pub chosen_empty : (f : Form) (c : Class) → are_empty (row_of f) ≡ true → form_at (phrase_of f) c ≡ Some f
+chosen_empty form.Stmts c h = refl
+chosen_empty form.Plains c h = refl
+chosen_empty form.Indices c h = refl
+chosen_empty _ c h = impossible h
+
+pub nullable : (f : Form) → are_empty (row_of f) ≡ true → is_nullable (phrase_of f) ≡ true
+nullable form.Stmts h = refl
+nullable form.Plains h = refl
+nullable form.Indices h = refl
+nullable _ h = impossible h
+
+pub continued : (f : Form) (c : Class) → row_continues (row_of f) c ≡ true → goes_on (phrase_of f) c ≡ true
+continued f c h = implied (row_continues (row_of f) c) (goes_on (phrase_of f) c) (at_each (λ c. not (row_continues (row_of f) c) || goes_on (phrase_of f) c) (holds f) c) h
+  where
+    holds : (f : Form) → every (λ c. not (row_continues (row_of f) c) || goes_on (phrase_of f) c) ≡ true
+    holds form.InputHeader = refl
+    holds form.OtherHeader = refl
+    holds form.Format = refl
+    holds form.StoreWord = refl
+    holds form.Fill = refl
+    holds form.Shape = refl
+    holds form.Extent = refl
+    holds form.PlusInt = refl
+    holds form.MinusInt = refl
+    holds form.Magnitude = refl
+    holds form.WidestMagnitude = refl
+    holds form.Loop = refl
+    holds form.If = refl
+    holds form.Let = refl
+    holds form.Block = refl
+    holds form.Turn = refl
+    holds form.Named = refl
+    holds form.Turns = refl
+    holds form.Range = refl
+    holds form.Body = refl
+    holds form.Stmts = refl
+    holds form.Declaration = refl
+    holds form.Update = refl
+    holds form.Reducing = refl
+    holds form.Putting = refl
+    holds form.Plains = refl
+    holds form.PlainList = refl
+    holds form.NextPlain = refl
+    holds form.Constant = refl
+    holds form.Shifted = refl
+    holds form.PlusOffset = refl
+    holds form.MinusOffset = refl
+    holds form.Expr = refl
+    holds form.Compared = refl
+    holds form.Sum = refl
+    holds form.PlusTerm = refl
+    holds form.MinusTerm = refl
+    holds form.Term = refl
+    holds form.NextUnary = refl
+    holds form.NumberUnary = refl
+    holds form.OtherUnary = refl
+    holds form.Negation = refl
+    holds form.NamedOperand = refl
+    holds form.Parentheses = refl
+    holds form.Call = refl
+    holds form.NegatedNumber = refl
+    holds form.NegatedWidest = refl
+    holds form.NegatedOperand = refl
+    holds form.Pair = refl
+    holds form.Access = refl
+    holds form.Indices = refl
+    holds form.IndexList = refl
+    holds form.NextIndex = refl
+    holds form.BareIndex = refl
+    holds form.ProtocolIndex = refl
+    holds form.PlainCore = refl
+    holds form.LooseCore = refl
+    holds form.LooseConstant = refl
+    holds form.LooseNamed = refl
+    holds form.PlusRest = refl
+    holds form.MinusRest = refl
+    holds form.AddedNumber = refl
+    holds form.AddedName = refl
+
+pub clear : (f : Form) (c : Class) → is_clear (row_of f) c ≡ true
+clear f c = at_each (λ c. is_clear (row_of f) c) (holds f) c
+  where
+    holds : (f : Form) → every (λ c. is_clear (row_of f) c) ≡ true
+    holds form.InputHeader = refl
+    holds form.OtherHeader = refl
+    holds form.Format = refl
+    holds form.StoreWord = refl
+    holds form.Fill = refl
+    holds form.Shape = refl
+    holds form.Extent = refl
+    holds form.PlusInt = refl
+    holds form.MinusInt = refl
+    holds form.Magnitude = refl
+    holds form.WidestMagnitude = refl
+    holds form.Loop = refl
+    holds form.If = refl
+    holds form.Let = refl
+    holds form.Block = refl
+    holds form.Turn = refl
+    holds form.Named = refl
+    holds form.Turns = refl
+    holds form.Range = refl
+    holds form.Body = refl
+    holds form.Stmts = refl
+    holds form.Declaration = refl
+    holds form.Update = refl
+    holds form.Reducing = refl
+    holds form.Putting = refl
+    holds form.Plains = refl
+    holds form.PlainList = refl
+    holds form.NextPlain = refl
+    holds form.Constant = refl
+    holds form.Shifted = refl
+    holds form.PlusOffset = refl
+    holds form.MinusOffset = refl
+    holds form.Expr = refl
+    holds form.Compared = refl
+    holds form.Sum = refl
+    holds form.PlusTerm = refl
+    holds form.MinusTerm = refl
+    holds form.Term = refl
+    holds form.NextUnary = refl
+    holds form.NumberUnary = refl
+    holds form.OtherUnary = refl
+    holds form.Negation = refl
+    holds form.NamedOperand = refl
+    holds form.Parentheses = refl
+    holds form.Call = refl
+    holds form.NegatedNumber = refl
+    holds form.NegatedWidest = refl
+    holds form.NegatedOperand = refl
+    holds form.Pair = refl
+    holds form.Access = refl
+    holds form.Indices = refl
+    holds form.IndexList = refl
+    holds form.NextIndex = refl
+    holds form.BareIndex = refl
+    holds form.ProtocolIndex = refl
+    holds form.PlainCore = refl
+    holds form.LooseCore = refl
+    holds form.LooseConstant = refl
+    holds form.LooseNamed = refl
+    holds form.PlusRest = refl
+    holds form.MinusRest = refl
+    holds form.AddedNumber = refl
+    holds form.AddedName = refl
+
+pub sound : (f : Form) (c : Class) → are_sound (row_of f) c ≡ true
+sound f c = at_each (λ c. are_sound (row_of f) c) (holds f) c
+  where
+    holds : (f : Form) → every (λ c. are_sound (row_of f) c) ≡ true
+    holds form.InputHeader = refl
+    holds form.OtherHeader = refl
+    holds form.Format = refl
+    holds form.StoreWord = refl
+    holds form.Fill = refl
+    holds form.Shape = refl
+    holds form.Extent = refl
+    holds form.PlusInt = refl
+    holds form.MinusInt = refl
+    holds form.Magnitude = refl
+    holds form.WidestMagnitude = refl
+    holds form.Loop = refl
+    holds form.If = refl
+    holds form.Let = refl
+    holds form.Block = refl
+    holds form.Turn = refl
+    holds form.Named = refl
+    holds form.Turns = refl
+    holds form.Range = refl
+    holds form.Body = refl
+    holds form.Stmts = refl
+    holds form.Declaration = refl
+    holds form.Update = refl
+    holds form.Reducing = refl
+    holds form.Putting = refl
+    holds form.Plains = refl
+    holds form.PlainList = refl
+    holds form.NextPlain = refl
+    holds form.Constant = refl
+    holds form.Shifted = refl
+    holds form.PlusOffset = refl
+    holds form.MinusOffset = refl
+    holds form.Expr = refl
+    holds form.Compared = refl
+    holds form.Sum = refl
+    holds form.PlusTerm = refl
+    holds form.MinusTerm = refl
+    holds form.Term = refl
+    holds form.NextUnary = refl
+    holds form.NumberUnary = refl
+    holds form.OtherUnary = refl
+    holds form.Negation = refl
+    holds form.NamedOperand = refl
+    holds form.Parentheses = refl
+    holds form.Call = refl
+    holds form.NegatedNumber = refl
+    holds form.NegatedWidest = refl
+    holds form.NegatedOperand = refl
+    holds form.Pair = refl
+    holds form.Access = refl
+    holds form.Indices = refl
+    holds form.IndexList = refl
+    holds form.NextIndex = refl
+    holds form.BareIndex = refl
+    holds form.ProtocolIndex = refl
+    holds form.PlainCore = refl
+    holds form.LooseCore = refl
+    holds form.LooseConstant = refl
+    holds form.LooseNamed = refl
+    holds form.PlusRest = refl
+    holds form.MinusRest = refl
+    holds form.AddedNumber = refl
+    holds form.AddedName = refl
+
+pub lighter : (f : Form) → row_weight (row_of f) ≤ rank (phrase_of f)
+lighter form.InputHeader = lit≤ tt
+lighter form.OtherHeader = lit≤ tt
+lighter form.Format = lit≤ tt
+lighter form.StoreWord = lit≤ tt
+lighter form.Fill = lit≤ tt
+lighter form.Shape = lit≤ tt
+lighter form.Extent = lit≤ tt
+lighter form.PlusInt = lit≤ tt
+lighter form.MinusInt = lit≤ tt
+lighter form.Magnitude = lit≤ tt
+lighter form.WidestMagnitude = lit≤ tt
+lighter form.Loop = lit≤ tt
+lighter form.If = lit≤ tt
+lighter form.Let = lit≤ tt
+lighter form.Block = lit≤ tt
+lighter form.Turn = lit≤ tt
+lighter form.Named = lit≤ tt
+lighter form.Turns = lit≤ tt
+lighter form.Range = lit≤ tt
+lighter form.Body = lit≤ tt
+lighter form.Stmts = lit≤ tt
+lighter form.Declaration = lit≤ tt
+lighter form.Update = lit≤ tt
+lighter form.Reducing = lit≤ tt
+lighter form.Putting = lit≤ tt
+lighter form.Plains = lit≤ tt
+lighter form.PlainList = lit≤ tt
+lighter form.NextPlain = lit≤ tt
+lighter form.Constant = lit≤ tt
+lighter form.Shifted = lit≤ tt
+lighter form.PlusOffset = lit≤ tt
+lighter form.MinusOffset = lit≤ tt
+lighter form.Expr = lit≤ tt
+lighter form.Compared = lit≤ tt
+lighter form.Sum = lit≤ tt
+lighter form.PlusTerm = lit≤ tt
+lighter form.MinusTerm = lit≤ tt
+lighter form.Term = lit≤ tt
+lighter form.NextUnary = lit≤ tt
+lighter form.NumberUnary = lit≤ tt
+lighter form.OtherUnary = lit≤ tt
+lighter form.Negation = lit≤ tt
+lighter form.NamedOperand = lit≤ tt
+lighter form.Parentheses = lit≤ tt
+lighter form.Call = lit≤ tt
+lighter form.NegatedNumber = lit≤ tt
+lighter form.NegatedWidest = lit≤ tt
+lighter form.NegatedOperand = lit≤ tt
+lighter form.Pair = lit≤ tt
+lighter form.Access = lit≤ tt
+lighter form.Indices = lit≤ tt
+lighter form.IndexList = lit≤ tt
+lighter form.NextIndex = lit≤ tt
+lighter form.BareIndex = lit≤ tt
+lighter form.ProtocolIndex = lit≤ tt
+lighter form.PlainCore = lit≤ tt
+lighter form.LooseCore = lit≤ tt
+lighter form.LooseConstant = lit≤ tt
+lighter form.LooseNamed = lit≤ tt
+lighter form.PlusRest = lit≤ tt
+lighter form.MinusRest = lit≤ tt
+lighter form.AddedNumber = lit≤ tt
+lighter form.AddedName = lit≤ tt
+
+pub small : (n : Phrase) → rank n < 16
+small phrase.Header = lit< tt
+small phrase.Format = lit< tt
+small phrase.StoreWord = lit< tt
+small phrase.Fill = lit< tt
+small phrase.Shape = lit< tt
+small phrase.Extent = lit< tt
+small phrase.Int = lit< tt
+small phrase.Magnitude = lit< tt
+small phrase.Stmt = lit< tt
+small phrase.Turns = lit< tt
+small phrase.Range = lit< tt
+small phrase.Body = lit< tt
+small phrase.Stmts = lit< tt
+small phrase.Change = lit< tt
+small phrase.Assigning = lit< tt
+small phrase.Plains = lit< tt
+small phrase.PlainList = lit< tt
+small phrase.NextPlain = lit< tt
+small phrase.Plain = lit< tt
+small phrase.Offset = lit< tt
+small phrase.Expr = lit< tt
+small phrase.Compared = lit< tt
+small phrase.Sum = lit< tt
+small phrase.NextTerm = lit< tt
+small phrase.Term = lit< tt
+small phrase.NextUnary = lit< tt
+small phrase.Unary = lit< tt
+small phrase.Operand = lit< tt
+small phrase.Negated = lit< tt
+small phrase.Pair = lit< tt
+small phrase.Access = lit< tt
+small phrase.Indices = lit< tt
+small phrase.IndexList = lit< tt
+small phrase.NextIndex = lit< tt
+small phrase.Index = lit< tt
+small phrase.Core = lit< tt
+small phrase.Loose = lit< tt
+small phrase.LooseRest = lit< tt
+small phrase.Added = lit< tt
