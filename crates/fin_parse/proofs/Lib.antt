@@ -1,1 +1,5 @@
 pub mod Table
+pub mod Leads
+pub mod Steps
+pub mod Examples
+pub mod Symbols

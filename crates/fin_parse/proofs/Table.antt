@@ -1,5 +1,5 @@
 -- What the table of the grammar keeps, form by form and class by class.
-use Rattle.std.proofs.Common.{◌≡◌, ℕ, ◌<◌, ◌≤◌, ◌==◌, Bool, true, false, not, ◌||◌, ◌&&◌, List, [], ◌∷◌, Option, Some, None, refl, sym, ap, ◌∙◌, lit≤, lit<}
+use Rattle.std.proofs.Common.{◌≡◌, ℕ, ◌<◌, ◌≤◌, ◌==◌, Bool, true, false, not, ◌||◌, ◌&&◌, List, [], ◌∷◌, Option, Some, None, refl, sym, ap, ◌∙◌, subst, ◌^◌, lit≤, lit<}
 use Rattle.std.specs.Prelude.{slice_get}
 use Rattle.std.proofs.lemmas.Bool.{eqb-true}
 use Rattle.fin_parse.specs.declared.class.Class.{Class}
@@ -9,7 +9,10 @@ use Rattle.fin_parse.specs.declared.grammar.Phrase.TheVariants as phrase
 use Rattle.fin_parse.specs.declared.grammar.Form.{Form}
 use Rattle.fin_parse.specs.declared.grammar.Form.TheVariants as form
 use Rattle.fin_parse.specs.Grammar.{phrase_of, row_of, form_at}
-use Rattle.fin_parse.specs.Choices.{is_nullable, are_empty, row_starts, row_continues, goes_on, is_clear, are_sound, row_weight, rank}
+use Rattle.fin_parse.specs.Choices.{is_nullable, are_empty, row_starts, row_continues, goes_on, is_clear, are_sound, row_weight, rank, begins, may_open, same_class}
+use Rattle.fin_parse.specs.Classes.{class_of}
+use Rattle.fin_lex.specs.declared.token.TokenKind.{TokenKind}
+use Rattle.fin_lex.specs.declared.token.TokenKind.TheVariants as kind
 
 pub impossible : {A : Type 0} → false ≡ true → A
 impossible h = absurd (cc)
@@ -492,6 +495,260 @@ sound f c = at_each (λ c. are_sound (row_of f) c) (holds f) c
     holds form.MinusRest = refl
     holds form.AddedNumber = refl
     holds form.AddedName = refl
+
+-- ---- phrases by number
+
+abbrev phrase_number : Phrase → ℕ
+phrase_number phrase.Header = 0
+phrase_number phrase.Format = 1
+phrase_number phrase.StoreWord = 2
+phrase_number phrase.Fill = 3
+phrase_number phrase.Shape = 4
+phrase_number phrase.Extent = 5
+phrase_number phrase.Int = 6
+phrase_number phrase.Magnitude = 7
+phrase_number phrase.Stmt = 8
+phrase_number phrase.Turns = 9
+phrase_number phrase.Range = 10
+phrase_number phrase.Body = 11
+phrase_number phrase.Stmts = 12
+phrase_number phrase.Change = 13
+phrase_number phrase.Assigning = 14
+phrase_number phrase.Plains = 15
+phrase_number phrase.PlainList = 16
+phrase_number phrase.NextPlain = 17
+phrase_number phrase.Plain = 18
+phrase_number phrase.Offset = 19
+phrase_number phrase.Expr = 20
+phrase_number phrase.Compared = 21
+phrase_number phrase.Sum = 22
+phrase_number phrase.NextTerm = 23
+phrase_number phrase.Term = 24
+phrase_number phrase.NextUnary = 25
+phrase_number phrase.Unary = 26
+phrase_number phrase.Operand = 27
+phrase_number phrase.Negated = 28
+phrase_number phrase.Pair = 29
+phrase_number phrase.Access = 30
+phrase_number phrase.Indices = 31
+phrase_number phrase.IndexList = 32
+phrase_number phrase.NextIndex = 33
+phrase_number phrase.Index = 34
+phrase_number phrase.Core = 35
+phrase_number phrase.Loose = 36
+phrase_number phrase.LooseRest = 37
+phrase_number phrase.Added = 38
+
+abbrev phrases : List Phrase
+phrases = phrase.Header ∷ phrase.Format ∷ phrase.StoreWord ∷ phrase.Fill ∷ phrase.Shape ∷ phrase.Extent ∷ phrase.Int ∷ phrase.Magnitude ∷ phrase.Stmt ∷ phrase.Turns ∷ phrase.Range ∷ phrase.Body ∷ phrase.Stmts ∷ phrase.Change ∷ phrase.Assigning ∷ phrase.Plains ∷ phrase.PlainList ∷ phrase.NextPlain ∷ phrase.Plain ∷ phrase.Offset ∷ phrase.Expr ∷ phrase.Compared ∷ phrase.Sum ∷ phrase.NextTerm ∷ phrase.Term ∷ phrase.NextUnary ∷ phrase.Unary ∷ phrase.Operand ∷ phrase.Negated ∷ phrase.Pair ∷ phrase.Access ∷ phrase.Indices ∷ phrase.IndexList ∷ phrase.NextIndex ∷ phrase.Index ∷ phrase.Core ∷ phrase.Loose ∷ phrase.LooseRest ∷ phrase.Added ∷ []
+
+phrase_numbered : (n : Phrase) → slice_get phrases (phrase_number n) ≡ Some n
+phrase_numbered phrase.Header = refl
+phrase_numbered phrase.Format = refl
+phrase_numbered phrase.StoreWord = refl
+phrase_numbered phrase.Fill = refl
+phrase_numbered phrase.Shape = refl
+phrase_numbered phrase.Extent = refl
+phrase_numbered phrase.Int = refl
+phrase_numbered phrase.Magnitude = refl
+phrase_numbered phrase.Stmt = refl
+phrase_numbered phrase.Turns = refl
+phrase_numbered phrase.Range = refl
+phrase_numbered phrase.Body = refl
+phrase_numbered phrase.Stmts = refl
+phrase_numbered phrase.Change = refl
+phrase_numbered phrase.Assigning = refl
+phrase_numbered phrase.Plains = refl
+phrase_numbered phrase.PlainList = refl
+phrase_numbered phrase.NextPlain = refl
+phrase_numbered phrase.Plain = refl
+phrase_numbered phrase.Offset = refl
+phrase_numbered phrase.Expr = refl
+phrase_numbered phrase.Compared = refl
+phrase_numbered phrase.Sum = refl
+phrase_numbered phrase.NextTerm = refl
+phrase_numbered phrase.Term = refl
+phrase_numbered phrase.NextUnary = refl
+phrase_numbered phrase.Unary = refl
+phrase_numbered phrase.Operand = refl
+phrase_numbered phrase.Negated = refl
+phrase_numbered phrase.Pair = refl
+phrase_numbered phrase.Access = refl
+phrase_numbered phrase.Indices = refl
+phrase_numbered phrase.IndexList = refl
+phrase_numbered phrase.NextIndex = refl
+phrase_numbered phrase.Index = refl
+phrase_numbered phrase.Core = refl
+phrase_numbered phrase.Loose = refl
+phrase_numbered phrase.LooseRest = refl
+phrase_numbered phrase.Added = refl
+
+same_phrase : (n m : Phrase) → phrase_number n == phrase_number m ≡ true → n ≡ m
+same_phrase n m h = some_same (sym (phrase_numbered n) ∙ ap (λ k. slice_get phrases k) (eqb-true (phrase_number n) (phrase_number m) h) ∙ phrase_numbered m)
+  where
+    some_same : {n m : Phrase} → Some n ≡ Some m → n ≡ m
+    some_same e = cc
+
+abbrev fits : Option Form → Phrase → Bool
+fits None n = true
+fits (Some f) n = phrase_number (phrase_of f) == phrase_number n
+
+-- the form that is chosen for a phrase is one of its forms
+pub chosen_for : (n : Phrase) (c : Class) (f : Form) → form_at n c ≡ Some f → phrase_of f ≡ n
+chosen_for n c f h = same_phrase (phrase_of f) n (subst (λ o. fits o n ≡ true) h (at_each (λ c. fits (form_at n c) n) (holds n) c))
+  where
+    holds : (n : Phrase) → every (λ c. fits (form_at n c) n) ≡ true
+    holds phrase.Header = refl
+    holds phrase.Format = refl
+    holds phrase.StoreWord = refl
+    holds phrase.Fill = refl
+    holds phrase.Shape = refl
+    holds phrase.Extent = refl
+    holds phrase.Int = refl
+    holds phrase.Magnitude = refl
+    holds phrase.Stmt = refl
+    holds phrase.Turns = refl
+    holds phrase.Range = refl
+    holds phrase.Body = refl
+    holds phrase.Stmts = refl
+    holds phrase.Change = refl
+    holds phrase.Assigning = refl
+    holds phrase.Plains = refl
+    holds phrase.PlainList = refl
+    holds phrase.NextPlain = refl
+    holds phrase.Plain = refl
+    holds phrase.Offset = refl
+    holds phrase.Expr = refl
+    holds phrase.Compared = refl
+    holds phrase.Sum = refl
+    holds phrase.NextTerm = refl
+    holds phrase.Term = refl
+    holds phrase.NextUnary = refl
+    holds phrase.Unary = refl
+    holds phrase.Operand = refl
+    holds phrase.Negated = refl
+    holds phrase.Pair = refl
+    holds phrase.Access = refl
+    holds phrase.Indices = refl
+    holds phrase.IndexList = refl
+    holds phrase.NextIndex = refl
+    holds phrase.Index = refl
+    holds phrase.Core = refl
+    holds phrase.Loose = refl
+    holds phrase.LooseRest = refl
+    holds phrase.Added = refl
+
+pub unopened : (n : Phrase) (c : Class) → may_open n c ≡ false → (begins n c ≡ false) × (is_nullable n ≡ false)
+unopened phrase.Operand class.Number h = (refl, refl)
+unopened phrase.Operand class.Widest h = (refl, refl)
+unopened phrase.Operand _ h = impossible (sym h)
+unopened _ c h = impossible (sym h)
+
+pub same_self : (c : Class) → same_class c c ≡ true
+same_self class.In = refl
+same_self class.OutOrTmp = refl
+same_self class.Fill = refl
+same_self class.Shape = refl
+same_self class.Loop = refl
+same_self class.If = refl
+same_self class.Let = refl
+same_self class.Turn = refl
+same_self class.Protocol = refl
+same_self class.Call = refl
+same_self class.Store = refl
+same_self class.Element = refl
+same_self class.OpenBracket = refl
+same_self class.CloseBracket = refl
+same_self class.OpenParenthesis = refl
+same_self class.CloseParenthesis = refl
+same_self class.OpenBrace = refl
+same_self class.CloseBrace = refl
+same_self class.Comma = refl
+same_self class.Tilde = refl
+same_self class.Plus = refl
+same_self class.Minus = refl
+same_self class.Star = refl
+same_self class.Comparison = refl
+same_self class.Equals = refl
+same_self class.Reducing = refl
+same_self class.Declares = refl
+same_self class.Dots = refl
+same_self class.Name = refl
+same_self class.Number = refl
+same_self class.Widest = refl
+same_self class.Unknown = refl
+same_self class.End = refl
+
+-- a kind of each class
+abbrev pub kind_of : Class → TokenKind
+kind_of class.In = kind.Reserved 0
+kind_of class.OutOrTmp = kind.Reserved 1
+kind_of class.Fill = kind.Reserved 3
+kind_of class.Shape = kind.Reserved 4
+kind_of class.Loop = kind.Reserved 5
+kind_of class.If = kind.Reserved 7
+kind_of class.Let = kind.Reserved 8
+kind_of class.Turn = kind.Reserved 9
+kind_of class.Protocol = kind.Reserved 11
+kind_of class.Call = kind.Reserved 14
+kind_of class.Store = kind.Reserved 19
+kind_of class.Element = kind.Reserved 24
+kind_of class.OpenBracket = kind.Symbol 0
+kind_of class.CloseBracket = kind.Symbol 1
+kind_of class.OpenParenthesis = kind.Symbol 2
+kind_of class.CloseParenthesis = kind.Symbol 3
+kind_of class.OpenBrace = kind.Symbol 4
+kind_of class.CloseBrace = kind.Symbol 5
+kind_of class.Comma = kind.Symbol 6
+kind_of class.Tilde = kind.Symbol 7
+kind_of class.Plus = kind.Symbol 8
+kind_of class.Minus = kind.Symbol 9
+kind_of class.Star = kind.Symbol 10
+kind_of class.Comparison = kind.Symbol 11
+kind_of class.Equals = kind.Symbol 17
+kind_of class.Reducing = kind.Symbol 18
+kind_of class.Declares = kind.Symbol 20
+kind_of class.Dots = kind.Symbol 21
+kind_of class.Name = kind.Name
+kind_of class.Number = kind.Number 0
+kind_of class.Widest = kind.Number (2 ^ 63)
+kind_of class.Unknown = kind.Symbol 200
+kind_of class.End = kind.Name
+
+pub kind_there : (c : Class) → not (same_class c class.End) ≡ true → class_of (kind_of c) ≡ c
+kind_there class.In h = refl
+kind_there class.OutOrTmp h = refl
+kind_there class.Fill h = refl
+kind_there class.Shape h = refl
+kind_there class.Loop h = refl
+kind_there class.If h = refl
+kind_there class.Let h = refl
+kind_there class.Turn h = refl
+kind_there class.Protocol h = refl
+kind_there class.Call h = refl
+kind_there class.Store h = refl
+kind_there class.Element h = refl
+kind_there class.OpenBracket h = refl
+kind_there class.CloseBracket h = refl
+kind_there class.OpenParenthesis h = refl
+kind_there class.CloseParenthesis h = refl
+kind_there class.OpenBrace h = refl
+kind_there class.CloseBrace h = refl
+kind_there class.Comma h = refl
+kind_there class.Tilde h = refl
+kind_there class.Plus h = refl
+kind_there class.Minus h = refl
+kind_there class.Star h = refl
+kind_there class.Comparison h = refl
+kind_there class.Equals h = refl
+kind_there class.Reducing h = refl
+kind_there class.Declares h = refl
+kind_there class.Dots h = refl
+kind_there class.Name h = refl
+kind_there class.Number h = refl
+kind_there class.Widest h = refl
+kind_there class.Unknown h = refl
+kind_there class.End h = impossible h
 
 pub lighter : (f : Form) → row_weight (row_of f) ≤ rank (phrase_of f)
 lighter form.InputHeader = lit≤ tt

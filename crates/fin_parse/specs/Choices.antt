@@ -193,10 +193,14 @@ abbrev pub is_clear : List Symbol → Class → Bool
 is_clear [] c = true
 is_clear (s ∷ row) c = not (continues s c && row_starts row c) && is_clear row c
 
--- what is repeated has a token, and isn't continued by what begins it
+-- a word is a token's class; what is repeated or left out has a token, and what is repeated isn't continued by what begins it
 abbrev pub is_sound : Symbol → Class → Bool
+is_sound (Word k) c = not (same_class k class.End)
+is_sound (One n) c = true
 is_sound (Many n) c = not (is_nullable n) && not (goes_on n c && begins n c)
-is_sound _ c = true
+is_sound (Maybe n) c = not (is_nullable n)
+is_sound (Deeper n) c = true
+is_sound (InLoop n) c = true
 
 abbrev pub are_sound : List Symbol → Class → Bool
 are_sound [] c = true

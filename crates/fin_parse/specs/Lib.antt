@@ -1,3 +1,5 @@
 pub mod Classes
 pub mod Grammar
 pub mod Choices
+pub mod Syntax
+pub mod Reading

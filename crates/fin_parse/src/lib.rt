@@ -2,7 +2,13 @@
 #![tactic(auto)]
 
 mod class;
+mod cursor;
 mod grammar;
+mod reader;
+mod tree;
 
 pub use class::{Class, class_of};
+pub use cursor::Cursor;
 pub use grammar::{Form, Phrase, Symbol, form_at, row_of};
+pub use reader::read_phrase;
+pub use tree::{Room, Stop, Tree};
