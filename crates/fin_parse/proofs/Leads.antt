@@ -82,3 +82,29 @@ mutual
       ]
     | inr g ↦ inr (first_of_two x y (begins n) g)
   ]
+
+-- ---- what has no token
+
+nil_first : (x y : List Sign) → x ++ y ≡ [] → x ≡ []
+nil_first [] y h = refl
+nil_first (t ∷ x) y h = cc
+
+nil_second : (x y : List Sign) → x ++ y ≡ [] → y ≡ []
+nil_second [] y h = h
+nil_second (t ∷ x) y h = cc
+
+mutual
+  pub no_token : {k : Room} {s : Symbol} {x : List Sign} {u : Tree} → IsTree k s x u → x ≡ [] → is_empty s ≡ true
+  no_token (word q) e = cc
+  no_token (one {n = n} f q h) e = subst (λ m. is_nullable m ≡ true) q (nullable f (no_tokens h e))
+  no_token (many h) e = refl
+  no_token absent e = refl
+  no_token (present h) e = refl
+  no_token (deeper p h) e = no_token h e
+  no_token (too_deep p m) e = cc
+  no_token (in_loop p h) e = no_token h e
+  no_token (too_many_loops p m) e = cc
+
+  pub no_tokens : {k : Room} {row : List Symbol} {x : List Sign} {us : List Tree} → IsRow k row x us → x ≡ [] → are_empty row ≡ true
+  no_tokens done e = refl
+  no_tokens (part {s = s} {row = row} {x = x} {y = y} h m) e = and_both (is_empty s) (are_empty row) (no_token h (nil_first x y e)) (no_tokens m (nil_second x y e))

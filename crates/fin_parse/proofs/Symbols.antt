@@ -1,5 +1,5 @@
 -- What is read of each symbol.
-use Rattle.std.proofs.Common.{◌≡◌, ◌≢◌, ℕ, ◌<◌, Bool, true, false, not, ◌||◌, ◌&&◌, List, [], ◌∷◌, ◌++◌, Option, Some, None, Result, Ok, Err, refl, sym, ap, ◌∙◌, subst, append_assoc, ◌⊎◌, inl, inr, is_some, arith}
+use Rattle.std.proofs.Common.{◌≡◌, ◌≢◌, ℕ, zero, suc, ◌+◌, ◌<◌, ◌≤◌, length, length-append, drop, slice_index_or, Bool, true, false, not, ◌||◌, ◌&&◌, List, [], ◌∷◌, ◌++◌, Option, Some, None, Result, Ok, Err, refl, sym, ap, ◌∙◌, subst, append_assoc, ◌⊎◌, inl, inr, is_some, arith}
 use Rattle.fin_lex.specs.declared.token.Token.{Token}
 use Rattle.fin_parse.specs.declared.class.Class.{Class}
 use Rattle.fin_parse.specs.declared.class.Class.TheVariants as class
@@ -13,17 +13,21 @@ use Rattle.fin_parse.specs.declared.tree.Room.{Room}
 use Rattle.fin_parse.specs.declared.tree.Stop.{Stop}
 use Rattle.fin_parse.specs.Classes.{class_of, class_at}
 use Rattle.fin_parse.specs.Grammar.{phrase_of, row_of, form_at}
-use Rattle.fin_parse.specs.Choices.{begins, is_nullable, may_open, goes_on, same_class, is_empty, are_empty, starts, row_starts, continues, row_continues, is_clear, is_sound, are_sound}
+use Rattle.fin_parse.specs.Choices.{begins, is_nullable, may_open, goes_on, same_class, is_empty, are_empty, starts, row_starts, continues, row_continues, is_clear, is_sound, are_sound, weight, row_weight}
 use Rattle.fin_parse.specs.Syntax.{Sign, real, beyond, signs, look, lower, entered, IsTree, word, one, many, absent, present, deeper, too_deep, in_loop, too_many_loops, IsRow, done, part, IsGroup, none, more}
 use Rattle.fin_parse.specs.Reading.{Kind, Ended, AtLeast, IsReal, Reached, Refused, TooDeep, Along, Stuck, Sunk, Outcome, Trees, Rows, Groups}
 use Rattle.fin_parse.proofs.Table.{impossible, both, chosen, chosen_empty, chosen_for, continued, clear, sound, unopened}
-use Rattle.fin_parse.proofs.Leads.{or_right, or_false, Leads, tree_leads, row_leads, group_leads}
+use Rattle.fin_parse.proofs.Leads.{or_right, or_false, Leads, tree_leads, row_leads, group_leads, no_token}
 use Rattle.fin_parse.proofs.Steps.{nil-append, begin, decide, same_room, looks_as, Sequence, phrase_read, phrase_fails, Through, through, through_fails}
-use Rattle.fin_parse.proofs.Examples.{ex_phrase, ex_row, zero_or_more}
+use Rattle.fin_parse.proofs.Examples.{ex_phrase, ex_symbol, ex_row}
 
 pub false_back : (a b : Bool) → (a ≡ true → b ≡ true) → b ≡ false → a ≡ false
 false_back true b h k = impossible (sym k ∙ h refl)
 false_back false b h k = refl
+
+pub not_true : (a : Bool) → not a ≡ true → a ≡ false
+not_true true h = impossible h
+not_true false h = refl
 
 not_both : (a b : Bool) → not (a && b) ≡ true → b ≡ true → a ≡ false
 not_both true true h k = impossible h
@@ -165,6 +169,40 @@ loop_sunk k n old full opens = record {
     wrong : (p r after : List Sign) (e : Tree) → IsTree k (InLoop n) p e → p ++ r ≡ after → IsReal after → ⊥
     wrong p r after e (in_loop q h) same is_real = omega arith
     wrong p r after e (too_many_loops {o = o} q m) same is_real = is_real o r (sym same)
+
+unopened_stuck : (n : Phrase) (j : Room) (p r after : List Sign) (u : Tree) (l : Class) → may_open n l ≡ false → IsTree j (One n) p u → p ++ r ≡ after → look after ≡ l → ⊥
+unopened_stuck n j p r after u l shut h same next = elim (tree_leads h) [
+  | inl e ↦ impossible (sym (unopened n l shut).1 ∙ e.1)
+  | inr g ↦ impossible (sym (unopened n l shut).0 ∙ ap (begins n) (sym (ap look same ∙ next)) ∙ g r)
+]
+
+pub deeper_stuck : (k : Room) (n : Phrase) (old : List Token) → may_open n (look (signs old)) ≡ false → Stuck (Trees (Deeper n)) k (goes_on n) old old
+deeper_stuck k n old shut = record {
+  taken = [];
+  split = refl;
+  refused = record {
+    none = λ j p r after e al h stops same next. wrong j p r after e h same next;
+    some = ex_symbol k (Deeper n) class.End refl;
+  };
+}
+  where
+    wrong : (j : Room) (p r after : List Sign) (e : Tree) → IsTree j (Deeper n) p e → p ++ r ≡ after → look after ≡ look (signs old) → ⊥
+    wrong j p r after e (deeper {u = u} q h) same next = unopened_stuck n (lower j) p r after u (look (signs old)) shut h same next
+    wrong j p r after e (too_deep {o = o} q m) same next = impossible (sym shut ∙ ap (may_open n) (sym (ap look same ∙ next)) ∙ m)
+
+pub loop_stuck : (k : Room) (n : Phrase) (old : List Token) → may_open n (look (signs old)) ≡ false → Stuck (Trees (InLoop n)) k (goes_on n) old old
+loop_stuck k n old shut = record {
+  taken = [];
+  split = refl;
+  refused = record {
+    none = λ j p r after e al h stops same next. wrong j p r after e h same next;
+    some = ex_symbol k (InLoop n) class.End refl;
+  };
+}
+  where
+    wrong : (j : Room) (p r after : List Sign) (e : Tree) → IsTree j (InLoop n) p e → p ++ r ≡ after → look after ≡ look (signs old) → ⊥
+    wrong j p r after e (in_loop {u = u} q h) same next = unopened_stuck n (entered j) p r after u (look (signs old)) shut h same next
+    wrong j p r after e (too_many_loops {o = o} q m) same next = impossible (sym shut ∙ ap (may_open n) (sym (ap look same ∙ next)) ∙ m)
 
 -- ---- many phrases, after those so far
 
@@ -313,3 +351,56 @@ module _ (whole : List Symbol) (k : Room) (c : Class → Bool) where
   row_fails old mid new all s row f t a b =
       let x = ex_row k row class.End ((tail_of c s row t).sound class.End) in
       phrase_fails (Rows whole) (RowFrom all (s ∷ row)) k c (Trees s) (continues s) (λ v. RowFrom (all ++ v ∷ []) row) (row_from all s row t) old mid new a f b (λ u. (x.0, (all ++ u ∷ []) ++ x.1, (x.1, refl, x.2)))
+
+-- ---- where a row of a form is read
+
+pub whole_tail : (f : Form) → Tail (row_continues (row_of f)) (row_of f)
+whole_tail f = record { stops = λ d h. h; clear = clear f; sound = sound f }
+
+pub tail_at : (c : Class → Bool) (row : List Symbol) (i : ℕ) → Tail c row → Tail c (drop i row)
+tail_at c row zero t = t
+tail_at c [] (suc i) t = t
+tail_at c (s ∷ row) (suc i) t = tail_at c row i (tail_of c s row t)
+
+pub cut_at : (row : List Symbol) (i : ℕ) (d : Symbol) → i < length row → drop i row ≡ slice_index_or row i d ∷ drop (i + 1) row
+cut_at [] i d h = absurd (omega arith)
+cut_at (s ∷ row) zero d h = refl
+cut_at (s ∷ row) (suc i) d h = cut_at row i d (omega arith) ∙ ap (λ m. slice_index_or row i d ∷ drop m (s ∷ row)) (let e : suc (i + 1) ≡ suc i + 1 = omega arith in e)
+
+pub at_end : (row : List Symbol) (i : ℕ) → length row ≤ i → drop i row ≡ []
+at_end [] zero h = refl
+at_end [] (suc i) h = refl
+at_end (s ∷ row) zero h = absurd (omega arith)
+at_end (s ∷ row) (suc i) h = at_end row i (omega arith)
+
+pub weight_at : (row : List Symbol) (i : ℕ) (d : Symbol) → i < length row → weight (slice_index_or row i d) ≤ row_weight row
+weight_at [] i d h = absurd (omega arith)
+weight_at (s ∷ row) zero d h = omega arith
+weight_at (s ∷ row) (suc i) d h = omega (arith, weight_at row i d (omega arith))
+
+pub sound_at : (row : List Symbol) (i : ℕ) (d : Symbol) (c : Class) → i < length row → are_sound row c ≡ true → is_sound (slice_index_or row i d) c ≡ true
+sound_at [] i d c h k = absurd (omega arith)
+sound_at (s ∷ row) zero d c h k = (both (is_sound s c) (are_sound row c) k).0
+sound_at (s ∷ row) (suc i) d c h k = sound_at row i d c (omega arith) (both (is_sound s c) (are_sound row c) k).1
+
+-- what a sound symbol says
+
+pub word_not_end : (k : Class) → not (same_class k class.End) ≡ true → k ≢ class.End
+word_not_end k h is = impossible (sym (ap (λ c. not (same_class c class.End)) is) ∙ h)
+
+pub solid_many : (n : Phrase) → ((c : Class) → is_sound (Many n) c ≡ true) → is_nullable n ≡ false
+solid_many n h = not_true (is_nullable n) (both (not (is_nullable n)) (not (goes_on n class.End && begins n class.End)) (h class.End)).0
+
+pub apart_many : (n : Phrase) → ((c : Class) → is_sound (Many n) c ≡ true) → (c : Class) → not (goes_on n c && begins n c) ≡ true
+apart_many n h c = (both (not (is_nullable n)) (not (goes_on n c && begins n c)) (h c)).1
+
+pub stops_many : (n : Phrase) (d : Class) → continues (Many n) d ≡ false → (begins n d ≡ false) × (goes_on n d ≡ false)
+stops_many n d h = or_false (begins n d) (goes_on n d) h
+
+-- a phrase that isn't empty takes a token
+pub phrase_takes : (k : Room) (n : Phrase) (old new : List Token) (u : Tree) → is_nullable n ≡ false → Along (Trees (One n)) k (goes_on n) old new (Ended u) → length new < length old
+phrase_takes k n old new u solid a = takes a.taken a.split (a.reached.build [] u (refl, refl))
+  where
+    takes : (taken : List Token) → old ≡ taken ++ new → IsTree k (One n) (signs taken ++ []) u → length new < length old
+    takes [] split h = impossible (sym solid ∙ no_token h refl)
+    takes (t ∷ taken) split h = let l : length (taken ++ new) ≡ length taken + length new = length-append taken new in let m : length old ≡ suc (length (taken ++ new)) = ap length split in omega arith

@@ -1,7 +1,7 @@
 //! Reads tokens by the table of the grammar.
-ghost use Rattle.std.specs.Prelude.{◌≡◌, ◌≢◌, IsTrue, ◌↔◌, false, true};
+ghost use Rattle.std.specs.Prelude.{◌≡◌, false, true, IfOk, ◌∷◌, []};
 ghost use Rattle.fin_parse.specs.Grammar.{row_of as row};
-ghost use Rattle.fin_parse.specs.Choices.{begins, is_nullable, may_open as opens, goes_on, continues, row_continues, is_sound};
+ghost use Rattle.fin_parse.specs.Choices.{may_open as opens, goes_on, continues, row_continues, is_sound};
 ghost use Rattle.fin_parse.specs.Reading.{Outcome, Trees, Rows, Groups};
 
 use crate::class::Class;
@@ -9,7 +9,7 @@ use crate::cursor::Cursor;
 use crate::grammar::{Form, Phrase, Symbol, form_at, row_of};
 use crate::tree::{Room, Stop, Tree};
 use sqlite_items::Items;
-use std::alloc::Global;
+use std::alloc::{AllocError, Global};
 
 /// Reads a phrase.
 #[cycle(read)]
@@ -77,12 +77,20 @@ fn read_maybe(alloc: Global, cursor: &mut Cursor, phrase: Phrase, room: Room) ->
     requires sound { (c : Class) → is_sound (Symbol.Maybe phrase) c ≡ true }
     ensures outcome { Outcome (Trees (Symbol.Maybe phrase)) room (continues (Symbol.Maybe phrase)) cursor.old cursor.new result }
 {
-    let mut parts = Items::new(alloc);
-    if form_at(phrase, cursor.class()).is_some() {
-        let part = read_phrase(alloc, cursor, phrase, room)?;
-        parts.push(part)?;
+    if form_at(phrase, cursor.class()).is_none() {
+        return Ok(Tree::Group(Items::new(alloc)));
     }
+    let part = read_phrase(alloc, cursor, phrase, room)?;
+    let parts = single(alloc, part)?;
     Ok(Tree::Group(parts))
+}
+
+fn single(alloc: Global, part: Tree) -> Result<Items<Tree>, AllocError>
+    ensures value { IfOk result (λ parts. parts ≡ part ∷ []) }
+{
+    let mut parts = Items::new(alloc);
+    parts.push(part)?;
+    Ok(parts)
 }
 
 #[cycle(read)]
