@@ -3,3 +3,5 @@ pub mod Leads
 pub mod Steps
 pub mod Examples
 pub mod Symbols
+pub mod TextForms
+pub mod Classes

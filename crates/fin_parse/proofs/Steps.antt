@@ -5,7 +5,7 @@ use Rattle.fin_lex.specs.declared.token.Token.{Token}
 use Rattle.fin_parse.specs.declared.class.Class.{Class}
 use Rattle.fin_parse.specs.declared.tree.Room.{Room}
 use Rattle.fin_parse.specs.declared.tree.Stop.{Stop}
-use Rattle.fin_parse.specs.declared.tree.Stop.TheVariants.{Unexpected, Deep, Memory}
+use Rattle.fin_parse.specs.declared.tree.Stop.TheVariants.{Unexpected, Deep, Crowded, Memory}
 use Rattle.fin_parse.specs.Classes.{class_at}
 use Rattle.fin_parse.specs.Syntax.{Sign, real, beyond, signs, look}
 use Rattle.fin_parse.specs.Reading.{Kind, Ended, AtLeast, IsReal, Reached, Refused, TooDeep, Along, Stuck, Sunk, Outcome}
@@ -24,7 +24,7 @@ look-append (real t ∷ x) a b h = refl
 look-append (beyond o ∷ x) a b h = refl
 
 pub same_room : (n : Room) → AtLeast n n
-same_room n = record { levels = omega arith; loops = omega arith }
+same_room n = record { headers = omega arith; levels = omega arith; loops = omega arith }
 
 -- the look of a text that goes on as old does
 pub looks_as : (old new taken : List Token) (p r after : List Sign) → old ≡ taken ++ new → p ++ r ≡ signs taken ++ after → look after ≡ look (signs new) → look (p ++ r) ≡ look (signs old)
@@ -135,6 +135,7 @@ module _ {A C : Type 0} (N M : Kind A) (n : Room) (c : Class → Bool) (B : Kind
     deep = subst (λ l. TooDeep N n c l (signs new)) (sym (signs-append a.taken s.taken))
         (phrase_too_deep N M n c B d M' q (signs a.taken) (signs s.taken) (signs new) (at_split s.taken s.split) s.deep ending);
   }
+  phrase_fails Crowded s ending = s
   phrase_fails (Memory m) s ending = tt
 
 -- ---- a phrase that is a whole phrase of another kind
@@ -181,6 +182,7 @@ module _ {A B : Type 0} (N : Kind A) (g : Room → Room) (c : Class → Bool) (N
       some = let t = a.deep.some in (t.0, t.1, f t.2, t.3, q.to (signs a.taken ++ (beyond t.0 ∷ t.1)) t.2 t.4);
     };
   }
+  through_fails Crowded a = a
   through_fails (Memory m) a = tt
 
 -- ---- how the outcome of a call becomes that of its caller

@@ -114,7 +114,7 @@ pub deeper_through : (k : Room) (n : Phrase) (l : Class) → 0 < k.levels → Th
 deeper_through k n l some = record {
   to = λ p e h. deeper some h;
   back = λ j p r e' al h stops next. back j p e' al h;
-  rise = λ j al. record { levels = (let a = al.levels in omega arith); loops = al.loops };
+  rise = λ j al. record { headers = al.headers; levels = (let a = al.levels in omega arith); loops = al.loops };
   stops = λ d h. h;
 }
   where
@@ -126,7 +126,7 @@ pub loop_through : (k : Room) (n : Phrase) (l : Class) → 0 < k.loops → Throu
 loop_through k n l some = record {
   to = λ p e h. in_loop some h;
   back = λ j p r e' al h stops next. back j p e' al h;
-  rise = λ j al. record { levels = al.levels; loops = (let a = al.loops in omega arith) };
+  rise = λ j al. record { headers = al.headers; levels = al.levels; loops = (let a = al.loops in omega arith) };
   stops = λ d h. h;
 }
   where
@@ -216,7 +216,7 @@ module _ (n : Phrase) (k : Room) (c : Class → Bool) (stops : (d : Class) → c
   pub group_start : (old : List Token) → Along (Groups n) k c old old (GroupFrom n [])
   group_start old = decide (Groups n) k c (Groups n) (GroupFrom n []) old old (begin (Groups n) k c old) (λ z e m. subst (λ q. IsGroup k n z q) (sym m.1) m.2) (λ j z r e m s next. (e, refl, m))
 
-  one_begins : {j : Room} {x : List Sign} {u : Tree} → IsTree j (One n) x u → (r : List Sign) → begins n (look (x ++ r)) ≡ true
+  pub one_begins : {j : Room} {x : List Sign} {u : Tree} → IsTree j (One n) x u → (r : List Sign) → begins n (look (x ++ r)) ≡ true
   one_begins h r = elim (tree_leads h) [ inl e ↦ impossible (sym solid ∙ e.1) | inr g ↦ g r ]
 
   pub group_goes : (old mid : List Token) (all : List Tree) → Along (Groups n) k c old mid (GroupFrom n all) → begins n (look (signs mid)) ≡ true → Along (Groups n) k c old mid (OneFrom n all)
@@ -240,7 +240,7 @@ module _ (n : Phrase) (k : Room) (c : Class → Bool) (stops : (d : Class) → c
       down j z r e us q (more {x = x} {y = y} {u = u} h m) next =
           impossible (sym ended ∙ sym (ap (begins n) next) ∙ ap (λ w. begins n (look w)) (append_assoc x y r) ∙ one_begins h (y ++ r))
 
-  follow : (j : Room) (v r : List Sign) (us : List Tree) → IsGroup j n v us → c (look r) ≡ false → goes_on n (look (v ++ r)) ≡ false
+  pub follow : (j : Room) (v r : List Sign) (us : List Tree) → IsGroup j n v us → c (look r) ≡ false → goes_on n (look (v ++ r)) ≡ false
   follow j v r us none stop = (stops (look r) stop).1
   follow j v r us (more {x = x} {y = y} h m) stop =
       not_both (goes_on n (look ((x ++ y) ++ r))) (begins n (look ((x ++ y) ++ r))) (apart (look ((x ++ y) ++ r))) (ap (λ w. begins n (look w)) (append_assoc x y r) ∙ one_begins h (y ++ r))

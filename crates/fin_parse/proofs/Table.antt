@@ -855,3 +855,13 @@ small phrase.Core = lit< tt
 small phrase.Loose = lit< tt
 small phrase.LooseRest = lit< tt
 small phrase.Added = lit< tt
+
+pub header_apart : (c : Class) → not (goes_on phrase.Header c && begins phrase.Header c) ≡ true
+header_apart c = at_each (λ c. not (goes_on phrase.Header c && begins phrase.Header c)) refl c
+
+pub stmt_apart : (c : Class) → not (goes_on phrase.Stmt c && begins phrase.Stmt c) ≡ true
+stmt_apart c = at_each (λ c. not (goes_on phrase.Stmt c && begins phrase.Stmt c)) refl c
+
+-- a statement continues no header
+pub header_clear : (c : Class) → begins phrase.Stmt c ≡ true → not (begins phrase.Header c || goes_on phrase.Header c) ≡ true
+header_clear c h = implied (begins phrase.Stmt c) (not (begins phrase.Header c || goes_on phrase.Header c)) (at_each (λ c. not (begins phrase.Stmt c) || not (begins phrase.Header c || goes_on phrase.Header c)) refl c) h

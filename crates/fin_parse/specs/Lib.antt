@@ -3,3 +3,4 @@ pub mod Grammar
 pub mod Choices
 pub mod Syntax
 pub mod Reading
+pub mod Text

@@ -4,7 +4,7 @@ use Rattle.fin_lex.specs.declared.token.Token.{Token}
 use Rattle.fin_parse.specs.declared.class.Class.{Class}
 use Rattle.fin_parse.specs.declared.tree.Room.{Room}
 use Rattle.fin_parse.specs.declared.tree.Stop.{Stop}
-use Rattle.fin_parse.specs.declared.tree.Stop.TheVariants.{Unexpected, Deep, Memory}
+use Rattle.fin_parse.specs.declared.tree.Stop.TheVariants.{Unexpected, Deep, Crowded, Memory}
 use Rattle.fin_parse.specs.Classes.{class_at}
 use Rattle.fin_parse.specs.Syntax.{Sign, real, beyond, signs, look, IsTree, IsRow, IsGroup}
 use Rattle.fin_parse.specs.declared.grammar.Phrase.{Phrase}
@@ -19,6 +19,7 @@ Ended e k z e' = (z ≡ []) × (e' ≡ e)
 
 -- as much room or more
 pub record AtLeast (n k : Room) : Type 0 where
+  pub headers : n.headers ≤ k.headers
   pub levels : n.levels ≤ k.levels
   pub loops : n.loops ≤ k.loops
 
@@ -62,6 +63,7 @@ abbrev pub Outcome : {A : Type 0} (N : Kind A) (n : Room) (c : Class → Bool) (
 Outcome N n c old new (Ok e) = Along N n c old new (Ended e)
 Outcome N n c old new (Err Unexpected) = Stuck N n c old new
 Outcome N n c old new (Err Deep) = Sunk N n c old new
+Outcome N n c old new (Err Crowded) = ⊥
 Outcome N n c old new (Err (Memory a)) = Unit {0}
 
 -- the trees of a symbol, of the symbols of a form, and of a repeated phrase

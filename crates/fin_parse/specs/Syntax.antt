@@ -31,10 +31,10 @@ look (beyond o ∷ z) = class_at o
 
 -- with a level less, and with a loop less
 abbrev pub lower : Room → Room
-lower k = record { levels = k.levels - 1; loops = k.loops }
+lower k = record { headers = k.headers; levels = k.levels - 1; loops = k.loops }
 
 abbrev pub entered : Room → Room
-entered k = record { levels = k.levels; loops = k.loops - 1 }
+entered k = record { headers = k.headers; levels = k.levels; loops = k.loops - 1 }
 
 mutual
   -- what a symbol of a form stands for, where that many levels and loops may be opened

@@ -5,10 +5,14 @@ mod class;
 mod cursor;
 mod grammar;
 mod reader;
+mod text;
 mod tree;
+mod trees;
 
 pub use class::{Class, class_of};
 pub use cursor::Cursor;
 pub use grammar::{Form, Phrase, Symbol, form_at, row_of};
 pub use reader::read_phrase;
+pub use text::read_text;
 pub use tree::{Room, Stop, Tree};
+pub use trees::Text;

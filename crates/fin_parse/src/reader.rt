@@ -60,7 +60,7 @@ fn read_symbol(alloc: Global, cursor: &mut Cursor, symbol: Symbol, room: Room) -
 }
 
 #[cycle(read)]
-fn read_many(alloc: Global, cursor: &mut Cursor, phrase: Phrase, room: Room) -> Result<Items<Tree>, Stop>
+pub fn read_many(alloc: Global, cursor: &mut Cursor, phrase: Phrase, room: Room) -> Result<Items<Tree>, Stop>
     requires sound { (c : Class) → is_sound (Symbol.Many phrase) c ≡ true }
     ensures outcome { Outcome (Groups phrase) room (continues (Symbol.Many phrase)) cursor.old cursor.new result }
 {
@@ -99,6 +99,7 @@ fn read_deeper(alloc: Global, cursor: &mut Cursor, phrase: Phrase, room: Room) -
 {
     if room.levels > 0 {
         let room = Room {
+            headers: room.headers,
             levels: room.levels - 1,
             loops: room.loops,
         };
@@ -116,6 +117,7 @@ fn read_in_loop(alloc: Global, cursor: &mut Cursor, phrase: Phrase, room: Room) 
 {
     if room.loops > 0 {
         let room = Room {
+            headers: room.headers,
             levels: room.levels,
             loops: room.loops - 1,
         };

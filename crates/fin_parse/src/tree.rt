@@ -18,9 +18,10 @@ pub enum Tree {
     Group(Items<Tree>),
 }
 
-/// How many levels and loops may still be opened.
+/// How many headers a text may have, and how many levels and loops may still be opened.
 #[derive(Clone, Copy, Debug, PartialEq, Eq)]
 pub struct Room {
+    pub headers: u8,
     pub levels: u8,
     pub loops: u8,
 }
@@ -32,6 +33,8 @@ pub enum Stop {
     Unexpected,
     /// The last token opens a level or a loop too many.
     Deep,
+    /// The next token begins a header too many.
+    Crowded,
     /// Memory ran out.
     Memory(AllocError),
 }
