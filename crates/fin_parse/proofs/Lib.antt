@@ -5,3 +5,4 @@ pub mod Examples
 pub mod Symbols
 pub mod TextForms
 pub mod Classes
+pub mod LastLines

@@ -4,3 +4,4 @@ pub mod Choices
 pub mod Syntax
 pub mod Reading
 pub mod Text
+pub mod Breaches

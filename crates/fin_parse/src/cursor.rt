@@ -1,6 +1,7 @@
 //! The tokens that are left to read.
 ghost use Rattle.std.specs.Prelude.{◌≡◌, ◌≢◌, ◌∷◌, MatchOption, length};
 ghost use Rattle.fin_parse.specs.Syntax.{signs, look};
+ghost use Rattle.fin_parse.specs.Breaches.{next_line};
 ghost use Rattle.fin_parse.specs.Classes.{class_of as class};
 
 use crate::class::{Class, class_of};
@@ -34,6 +35,16 @@ impl<'a> Cursor<'a> {
         ensures { result ≡ length self.now }
     {
         self.left.len()
+    }
+
+    /// The line of the next token, or of the end.
+    pub fn line(&self, last: u32) -> u32
+        ensures { result ≡ next_line self.now last }
+    {
+        match self.left {
+            [token, ..] => token.line,
+            [] => last,
+        }
     }
 
     /// The class of the next token, or of the end.
