@@ -67,9 +67,9 @@ mutual
   row_leads done = inl (refl, refl)
   row_leads (part {s = s} {row = row} {x = x} {y = y} h m) = elim (tree_leads h) [
     | inl e ↦ elim (row_leads m) [
-        | inl f ↦ inl (no_parts x y e.0 f.0, and_both (is_empty s) (are_empty row) e.1 f.1)
-        | inr g ↦ inr (second x y (row_starts (s ∷ row)) e.0 (λ r. or_right (starts s (look (y ++ r))) (is_empty s && row_starts row (look (y ++ r))) (and_both (is_empty s) (row_starts row (look (y ++ r))) e.1 (g r))))
-      ]
+      | inl f ↦ inl (no_parts x y e.0 f.0, and_both (is_empty s) (are_empty row) e.1 f.1)
+      | inr g ↦ inr (second x y (row_starts (s ∷ row)) e.0 (λ r. or_right (starts s (look (y ++ r))) (is_empty s && row_starts row (look (y ++ r))) (and_both (is_empty s) (row_starts row (look (y ++ r))) e.1 (g r))))
+    ]
     | inr g ↦ inr (first_of_two x y (row_starts (s ∷ row)) (λ r. or_left (starts s (look (x ++ r))) (is_empty s && row_starts row (look (x ++ r))) (g r)))
   ]
 
@@ -77,9 +77,9 @@ mutual
   group_leads none = inl (refl, refl)
   group_leads (more {n = n} {x = x} {y = y} h m) = elim (tree_leads h) [
     | inl e ↦ elim (group_leads m) [
-        | inl f ↦ inl (no_parts x y e.0 f.0, refl)
-        | inr g ↦ inr (second x y (begins n) e.0 g)
-      ]
+      | inl f ↦ inl (no_parts x y e.0 f.0, refl)
+      | inr g ↦ inr (second x y (begins n) e.0 g)
+    ]
     | inr g ↦ inr (first_of_two x y (begins n) g)
   ]
 

@@ -6,3 +6,4 @@ pub mod Symbols
 pub mod TextForms
 pub mod Classes
 pub mod LastLines
+pub mod Finds

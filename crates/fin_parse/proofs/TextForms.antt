@@ -99,14 +99,22 @@ along_text : (k : Room) (old : List Token) → Along Texts k is_inside old old T
 along_text k old = begin Texts k is_inside old
 
 pub fails_plainly : (k : Room) (old new : List Token) (f : Stop) → Outcome {A = Text} Texts k is_inside old new (Err f) → TextRead k old new (Err f)
-fails_plainly k old new Unexpected s = (s.taken, s.split, record {
-  begins = s.refused.some;
-  ends = λ j after text al next h. s.refused.none j (signs s.taken ++ after) [] after text al h refl (nil-append (signs s.taken ++ after)) next;
-})
-fails_plainly k old new Deep s = (s.taken, s.split, record {
-  opens = s.deep.some;
-  ends = λ after text next is_real h. s.deep.none (signs s.taken ++ after) [] after text h refl (nil-append (signs s.taken ++ after)) next is_real;
-})
+fails_plainly k old new Unexpected s = (
+  s.taken,
+  s.split,
+  record {
+    begins = s.refused.some;
+    ends = λ j after text al next h. s.refused.none j (signs s.taken ++ after) [] after text al h refl (nil-append (signs s.taken ++ after)) next;
+  },
+)
+fails_plainly k old new Deep s = (
+  s.taken,
+  s.split,
+  record {
+    opens = s.deep.some;
+    ends = λ after text next is_real h. s.deep.none (signs s.taken ++ after) [] after text h refl (nil-append (signs s.taken ++ after)) next is_real;
+  },
+)
 fails_plainly k old new Crowded s = elim s [ ]
 fails_plainly k old new (Memory a) s = tt
 
@@ -123,10 +131,14 @@ whole_text : (k : Room) (old mid new : List Token) (hs body : List Tree) → Gat
 whole_text k old mid new hs body g ended s = phrase_read Texts (StmtsOf hs) k is_inside (Groups Stmt) (continues (Many Stmt)) (λ body. Ended (record { headers = hs; body = body })) (stmts_from k hs) old mid new (after_headers k old mid hs g ended) body s
 
 pub crowded_text : (k : Room) (old mid : List Token) (hs : List Tree) → Gathered k old mid hs → begins Header (look (signs mid)) ≡ true → TextRead k old mid (Err Crowded)
-crowded_text k old mid hs g goes = (g.along.taken, g.along.split, record {
-  full = (hs, read_so_far.group, elim g.stopped [ inl e ↦ e | inr e ↦ impossible (sym e ∙ goes) ]);
-  further = goes;
-})
+crowded_text k old mid hs g goes = (
+  g.along.taken,
+  g.along.split,
+  record {
+    full = (hs, read_so_far.group, elim g.stopped [ inl e ↦ e | inr e ↦ impossible (sym e ∙ goes) ]);
+    further = goes;
+  },
+)
   where
     built : AreHeaders k (signs g.along.taken ++ []) hs
     built = g.along.reached.build [] hs ([], sym (nil-append hs), none, g.few)
@@ -147,11 +159,14 @@ text_ended k old mid new hs body g ended s none_left =
 
 pub text_goes_on : (k : Room) (old mid new : List Token) (hs body : List Tree) → Gathered k old mid hs → begins Header (look (signs mid)) ≡ false → Along (Groups Stmt) k (continues (Many Stmt)) mid new (Ended body) → (look (signs new) ≡ class.End → ⊥) → TextRead k old new (Err Unexpected)
 text_goes_on k old mid new hs body g ended s not_end =
-    let a = whole_text k old mid new hs body g ended s in
-    (a.taken, a.split, record {
-      begins = ([], record { headers = hs; body = body }, a.reached.build [] (record { headers = hs; body = body }) (refl, refl));
-      ends = λ j after text al next h. end_only a j after text al next h;
-    })
+    let a = whole_text k old mid new hs body g ended s in (
+      a.taken,
+      a.split,
+      record {
+        begins = ([], record { headers = hs; body = body }, a.reached.build [] (record { headers = hs; body = body }) (refl, refl));
+        ends = λ j after text al next h. end_only a j after text al next h;
+      },
+    )
   where
     end_only : (a : Along Texts k is_inside old new (Ended (record { headers = hs; body = body }))) (j : Room) (after : List Sign) (text : Text) → AtLeast k j → look after ≡ look (signs new) → Texts j (signs a.taken ++ after) text → ⊥
     end_only a j after text al next h =

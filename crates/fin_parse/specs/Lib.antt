@@ -5,3 +5,4 @@ pub mod Syntax
 pub mod Reading
 pub mod Text
 pub mod Breaches
+pub mod Names

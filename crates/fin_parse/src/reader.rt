@@ -13,7 +13,12 @@ use std::alloc::{AllocError, Global};
 
 /// Reads a phrase.
 #[cycle(read)]
-pub fn read_phrase(alloc: Global, cursor: &mut Cursor, phrase: Phrase, room: Room) -> Result<Tree, Stop>
+pub fn read_phrase(
+    alloc: Global,
+    cursor: &mut Cursor,
+    phrase: Phrase,
+    room: Room,
+) -> Result<Tree, Stop>
     ensures outcome { Outcome (Trees (Symbol.One phrase)) room (goes_on phrase) cursor.old cursor.new result }
 {
     match form_at(phrase, cursor.class()) {
@@ -60,7 +65,12 @@ fn read_symbol(alloc: Global, cursor: &mut Cursor, symbol: Symbol, room: Room) -
 }
 
 #[cycle(read)]
-pub fn read_many(alloc: Global, cursor: &mut Cursor, phrase: Phrase, room: Room) -> Result<Items<Tree>, Stop>
+pub fn read_many(
+    alloc: Global,
+    cursor: &mut Cursor,
+    phrase: Phrase,
+    room: Room,
+) -> Result<Items<Tree>, Stop>
     requires sound { (c : Class) → is_sound (Symbol.Many phrase) c ≡ true }
     ensures outcome { Outcome (Groups phrase) room (continues (Symbol.Many phrase)) cursor.old cursor.new result }
 {
@@ -112,7 +122,12 @@ fn read_deeper(alloc: Global, cursor: &mut Cursor, phrase: Phrase, room: Room) -
 }
 
 #[cycle(read)]
-fn read_in_loop(alloc: Global, cursor: &mut Cursor, phrase: Phrase, room: Room) -> Result<Tree, Stop>
+fn read_in_loop(
+    alloc: Global,
+    cursor: &mut Cursor,
+    phrase: Phrase,
+    room: Room,
+) -> Result<Tree, Stop>
     ensures outcome { Outcome (Trees (Symbol.InLoop phrase)) room (goes_on phrase) cursor.old cursor.new result }
 {
     if room.loops > 0 {

@@ -5,8 +5,8 @@ use crate::class::Class;
 use crate::cursor::Cursor;
 use crate::grammar::{Phrase, form_at};
 use crate::reader::{read_many, read_phrase};
-use crate::trees::Text;
 use crate::tree::{Room, Stop, Tree};
+use crate::trees::Text;
 use sqlite_items::Items;
 use std::alloc::Global;
 
@@ -29,7 +29,9 @@ fn read_headers(alloc: Global, cursor: &mut Cursor, room: Room) -> Result<Items<
     ensures outcome { HeadersRead room cursor.old cursor.new result }
 {
     let mut headers = Items::new(alloc);
-    'each: while headers.len() < room.headers as usize && form_at(Phrase::Header, cursor.class()).is_some() {
+    'each: while headers.len() < room.headers as usize
+        && form_at(Phrase::Header, cursor.class()).is_some()
+    {
         let header = read_phrase(alloc, cursor, Phrase::Header, room)?;
         headers.push(header)?;
     }

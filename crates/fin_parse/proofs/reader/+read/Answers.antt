@@ -27,8 +27,10 @@ pub read_phrase-returns-in_err-parts-in-Some : goal.read_phrase-returns-in_err-p
 read_phrase-returns-in_err-parts-in-Some t c =
     let f = c.in-Some.form in let n = c.args.phrase in let old = c.args.cursor.now in let new = c.read_row.new.cursor in let k = c.args.room in
     let is : form_at n (look (signs old)) ≡ Some f = sym (c.in-Some.ensures.value ∙ ap (form_at n) c.class.ensures) in
-    record { outcome = fails_as (Trees (One n)) k (goes_on n) old new c.from_residual.result c.in_err-parts-in-Some.field-0.0 (search rules)
-    (through_fails (Rows (row f)) (λ k. k) (row_continues (row f)) (Trees (One n)) k (goes_on n) (Node f) old new (phrase_by_form k n f old is) c.in_err-parts-in-Some.field-0.0 c.in_err-parts-in-Some.ensures.outcome) }
+    record {
+      outcome = fails_as (Trees (One n)) k (goes_on n) old new c.from_residual.result c.in_err-parts-in-Some.field-0.0 (search rules)
+          (through_fails (Rows (row f)) (λ k. k) (row_continues (row f)) (Trees (One n)) k (goes_on n) (Node f) old new (phrase_by_form k n f old is) c.in_err-parts-in-Some.field-0.0 c.in_err-parts-in-Some.ensures.outcome);
+    }
 
 pub read_phrase-returns-in_ok-parts-in-Some : goal.read_phrase-returns-in_ok-parts-in-Some
 read_phrase-returns-in_ok-parts-in-Some t c =
@@ -59,8 +61,10 @@ read_row-returns-in_err-part t c =
     let cut = cut_at s i (Word class.In) inside in
     let a = subst (λ q. Along (Rows (row f)) k (row_continues (row f)) old c.loop-symbol.cursor (RowFrom c.loop-symbol.parts q)) cut c.loop-symbol.invariant.along in
     let tail = subst (λ q. Tail (row_continues (row f)) q) (ap (drop i) (sym e) ∙ cut) (tail_at (row_continues (row f)) (row f) i (whole_tail f)) in
-    record { outcome = fails_as (Rows (row f)) k (row_continues (row f)) old c.read_symbol.new.cursor c.from_residual.result c.in_err-part.field-0.0 (search rules)
-    (row_fails (row f) k (row_continues (row f)) old c.loop-symbol.cursor c.read_symbol.new.cursor c.loop-symbol.parts (slice_index_or s i (Word class.In)) (drop (i + 1) s) c.in_err-part.field-0.0 tail a c.in_err-part.ensures.outcome) }
+    record {
+      outcome = fails_as (Rows (row f)) k (row_continues (row f)) old c.read_symbol.new.cursor c.from_residual.result c.in_err-part.field-0.0 (search rules)
+          (row_fails (row f) k (row_continues (row f)) old c.loop-symbol.cursor c.read_symbol.new.cursor c.loop-symbol.parts (slice_index_or s i (Word class.In)) (drop (i + 1) s) c.in_err-part.field-0.0 tail a c.in_err-part.ensures.outcome);
+    }
 
 pub read_row-loop-symbol-preserved : goal.read_row-loop-symbol-preserved
 read_row-loop-symbol-preserved t c =
@@ -74,15 +78,17 @@ read_row-loop-symbol-preserved t c =
     record {
       symbols = e;
       along = subst (λ q. Along (Rows (row f)) k (row_continues (row f)) old c.read_symbol.new.cursor (RowFrom q (drop (i + 1) s))) (sym pushed)
-      (row_more (row f) k (row_continues (row f)) old c.loop-symbol.cursor c.read_symbol.new.cursor c.loop-symbol.parts (slice_index_or s i (Word class.In)) (drop (i + 1) s) c.in_ok-part.part tail a c.in_ok-part.ensures.outcome);
+          (row_more (row f) k (row_continues (row f)) old c.loop-symbol.cursor c.read_symbol.new.cursor c.loop-symbol.parts (slice_index_or s i (Word class.In)) (drop (i + 1) s) c.in_ok-part.part tail a c.in_ok-part.ensures.outcome);
     }
 
 pub read_row-returns : goal.read_row-returns
 read_row-returns t c =
     let f = c.args.form in let i = c.loop-symbol.symbol-index in let s = c.row_of-symbols.result.now in let old = c.args.cursor.now in let k = c.args.room in
     let past : length s ≤ i = omega arith in
-    record { outcome = row_ends (row f) k (row_continues (row f)) old c.loop-symbol.cursor c.loop-symbol.parts
-    (subst (λ q. Along (Rows (row f)) k (row_continues (row f)) old c.loop-symbol.cursor (RowFrom c.loop-symbol.parts q)) (at_end s i past) c.loop-symbol.invariant.along) }
+    record {
+      outcome = row_ends (row f) k (row_continues (row f)) old c.loop-symbol.cursor c.loop-symbol.parts
+          (subst (λ q. Along (Rows (row f)) k (row_continues (row f)) old c.loop-symbol.cursor (RowFrom c.loop-symbol.parts q)) (at_end s i past) c.loop-symbol.invariant.along);
+    }
 
 -- ---- read_symbol
 
@@ -92,15 +98,19 @@ read_symbol-take-requires t c = word_not_end c.in-Word.class (subst (λ q. is_so
 pub read_symbol-returns-in-Some : goal.read_symbol-returns-in-Some
 read_symbol-returns-in-Some t c =
     let k = c.args.room in let w = c.in-Word.class in let token = c.in-Some.token in
-    record { outcome = subst (λ s. Along (Trees s) k (continues s) c.args.cursor.now c.take.new.self (Ended (Leaf token))) (sym c.in-Word.is)
-    (subst (λ q. Along (Trees (Word w)) k (continues (Word w)) q c.take.new.self (Ended (Leaf token))) (sym c.in-Some.ensures.0) (word_read k w token c.take.new.self c.in-Some.ensures.1)) }
+    record {
+      outcome = subst (λ s. Along (Trees s) k (continues s) c.args.cursor.now c.take.new.self (Ended (Leaf token))) (sym c.in-Word.is)
+          (subst (λ q. Along (Trees (Word w)) k (continues (Word w)) q c.take.new.self (Ended (Leaf token))) (sym c.in-Some.ensures.0) (word_read k w token c.take.new.self c.in-Some.ensures.1));
+    }
 
 pub read_symbol-returns-in-None : goal.read_symbol-returns-in-None
 read_symbol-returns-in-None t c =
     let k = c.args.room in let w = c.in-Word.class in let old = c.args.cursor.now in
     let x = ex_symbol k (Word w) class.End (subst (λ q. is_sound q class.End ≡ true) c.in-Word.is (c.requires.sound class.End)) in
-    record { outcome = subst (λ s. Stuck (Trees s) k (continues s) old c.take.new.self) (sym c.in-Word.is)
-    (subst (λ q. Stuck (Trees (Word w)) k (continues (Word w)) old q) (sym c.in-None.ensures.0) (word_stuck k w old x.0 x.1 x.2 c.in-None.ensures.1)) }
+    record {
+      outcome = subst (λ s. Stuck (Trees s) k (continues s) old c.take.new.self) (sym c.in-Word.is)
+          (subst (λ q. Stuck (Trees (Word w)) k (continues (Word w)) old q) (sym c.in-None.ensures.0) (word_stuck k w old x.0 x.1 x.2 c.in-None.ensures.1));
+    }
 
 pub read_symbol-read_many-requires : goal.read_symbol-read_many-requires
 read_symbol-read_many-requires t c = (measure, (λ k. subst (λ q. is_sound q k ≡ true) c.in-Many.is (c.requires.sound k)))
@@ -114,14 +124,18 @@ read_symbol-read_many-requires t c = (measure, (λ k. subst (λ q. is_sound q k 
 pub read_symbol-returns-in_err-parts-in-Many : goal.read_symbol-returns-in_err-parts-in-Many
 read_symbol-returns-in_err-parts-in-Many t c =
     let n = c.in-Many.phrase in let k = c.args.room in let old = c.args.cursor.now in let new = c.read_many.new.cursor in
-    record { outcome = subst (λ s. Outcome (Trees s) k (continues s) old new c.from_residual.result) (sym c.in-Many.is) (fails_as (Trees (Many n)) k (continues (Many n)) old new c.from_residual.result c.in_err-parts-in-Many.field-0.0 (search rules)
-    (through_fails (Groups n) (λ k. k) (continues (Many n)) (Trees (Many n)) k (continues (Many n)) Group old new (many_through k n (look (signs old))) c.in_err-parts-in-Many.field-0.0 c.in_err-parts-in-Many.ensures.outcome)) }
+    record {
+      outcome = subst (λ s. Outcome (Trees s) k (continues s) old new c.from_residual.result) (sym c.in-Many.is) (fails_as (Trees (Many n)) k (continues (Many n)) old new c.from_residual.result c.in_err-parts-in-Many.field-0.0 (search rules)
+          (through_fails (Groups n) (λ k. k) (continues (Many n)) (Trees (Many n)) k (continues (Many n)) Group old new (many_through k n (look (signs old))) c.in_err-parts-in-Many.field-0.0 c.in_err-parts-in-Many.ensures.outcome));
+    }
 
 pub read_symbol-returns-in_ok-parts-in-Many : goal.read_symbol-returns-in_ok-parts-in-Many
 read_symbol-returns-in_ok-parts-in-Many t c =
     let n = c.in-Many.phrase in let k = c.args.room in let old = c.args.cursor.now in let new = c.read_many.new.cursor in
-    record { outcome = subst (λ s. Along (Trees s) k (continues s) old new (Ended (Group c.in_ok-parts-in-Many.parts))) (sym c.in-Many.is)
-    (through (Groups n) (λ k. k) (continues (Many n)) (Trees (Many n)) k (continues (Many n)) Group old new (many_through k n (look (signs old))) c.in_ok-parts-in-Many.parts c.in_ok-parts-in-Many.ensures.outcome) }
+    record {
+      outcome = subst (λ s. Along (Trees s) k (continues s) old new (Ended (Group c.in_ok-parts-in-Many.parts))) (sym c.in-Many.is)
+          (through (Groups n) (λ k. k) (continues (Many n)) (Trees (Many n)) k (continues (Many n)) Group old new (many_through k n (look (signs old))) c.in_ok-parts-in-Many.parts c.in_ok-parts-in-Many.ensures.outcome);
+    }
 
 pub read_symbol-read_maybe-requires : goal.read_symbol-read_maybe-requires
 read_symbol-read_maybe-requires t c = (measure, (λ k. subst (λ q. is_sound q k ≡ true) c.in-Maybe.is (c.requires.sound k)))
@@ -139,8 +153,10 @@ read_many-returns-in_err-part t c =
     let n = c.args.phrase in let k = c.args.room in let old = c.args.cursor.now in let w = continues (Many n) in
     let goes : begins n (look (signs c.each.cursor)) ≡ true = search rules in
     let a = group_goes n k w (stops_many n) (solid_many n c.requires.sound) (apart_many n c.requires.sound) old c.each.cursor c.each.parts c.each.invariant goes in
-    record { outcome = fails_as (Groups n) k w old c.read_phrase.new.cursor c.from_residual.result c.in_err-part.field-0.0 (search rules)
-    (group_fails n k w (stops_many n) (solid_many n c.requires.sound) (apart_many n c.requires.sound) old c.each.cursor c.read_phrase.new.cursor c.each.parts c.in_err-part.field-0.0 a c.in_err-part.ensures.outcome) }
+    record {
+      outcome = fails_as (Groups n) k w old c.read_phrase.new.cursor c.from_residual.result c.in_err-part.field-0.0 (search rules)
+          (group_fails n k w (stops_many n) (solid_many n c.requires.sound) (apart_many n c.requires.sound) old c.each.cursor c.read_phrase.new.cursor c.each.parts c.in_err-part.field-0.0 a c.in_err-part.ensures.outcome);
+    }
 
 pub read_many-each-smaller : goal.read_many-each-smaller
 read_many-each-smaller t c = phrase_takes c.args.room c.args.phrase c.each.cursor c.read_phrase.new.cursor c.in_ok-part.part (solid_many c.args.phrase c.requires.sound) c.in_ok-part.ensures.outcome
@@ -172,8 +188,10 @@ pub read_maybe-returns-in_err-part : goal.read_maybe-returns-in_err-part
 read_maybe-returns-in_err-part t c =
     let n = c.args.phrase in let k = c.args.room in let old = c.args.cursor.now in let new = c.read_phrase.new.cursor in
     let goes : begins n (look (signs old)) ≡ true = search rules in
-    record { outcome = fails_as (Trees (Maybe n)) k (continues (Maybe n)) old new c.from_residual.result c.in_err-part.field-0.0 (search rules)
-    (through_fails (Trees (One n)) (λ k. k) (goes_on n) (Trees (Maybe n)) k (continues (Maybe n)) (λ u. Group (u ∷ [])) old new (maybe_present k n old goes) c.in_err-part.field-0.0 c.in_err-part.ensures.outcome) }
+    record {
+      outcome = fails_as (Trees (Maybe n)) k (continues (Maybe n)) old new c.from_residual.result c.in_err-part.field-0.0 (search rules)
+          (through_fails (Trees (One n)) (λ k. k) (goes_on n) (Trees (Maybe n)) k (continues (Maybe n)) (λ u. Group (u ∷ [])) old new (maybe_present k n old goes) c.in_err-part.field-0.0 c.in_err-part.ensures.outcome);
+    }
 
 pub read_maybe-returns : goal.read_maybe-returns
 read_maybe-returns t c =

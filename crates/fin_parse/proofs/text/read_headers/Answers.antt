@@ -15,8 +15,10 @@ returns-in_err-header c =
     let fewer : length c.each.headers < k.headers = omega arith in
     let f = c.in_err-header.field-0.0 in
     let is : c.from_residual.result ≡ Err f = search rules in
-    record { outcome = subst (λ q. HeadersRead k old new q) (sym is)
-    (headers_fail k old mid new c.each.headers f fewer c.each.invariant.along goes c.in_err-header.ensures.outcome) }
+    record {
+      outcome = subst (λ q. HeadersRead k old new q) (sym is)
+          (headers_fail k old mid new c.each.headers f fewer c.each.invariant.along goes c.in_err-header.ensures.outcome);
+    }
 
 pub each-smaller : goal.each-smaller
 each-smaller c = phrase_takes c.args.room Header c.each.cursor c.read_phrase.new.cursor c.in_ok-header.header refl c.in_ok-header.ensures.outcome
