@@ -8,3 +8,4 @@ pub mod Classes
 pub mod LastLines
 pub mod Finds
 pub mod Parts
+pub mod HeaderParts

@@ -9,12 +9,12 @@ use Rattle.fin_parse.specs.Roles.{name_place, inner_from}
 use Rattle.fin_parse.specs.Names.{Facts, Scope, part_at, part_breaches, named_breaches, role_breaches, scope_within, first_of}
 use Rattle.fin_parse.proofs.Finds.{first_found, first_passed}
 
-drop_map : (f : Tree → Facts) (i : ℕ) (parts : List Tree) → drop i (map f parts) ≡ map f (drop i parts)
+drop_map : {A : Type 0} (f : Tree → A) (i : ℕ) (parts : List Tree) → drop i (map f parts) ≡ map f (drop i parts)
 drop_map f zero parts = refl
 drop_map f (suc i) [] = refl
 drop_map f (suc i) (t ∷ parts) = drop_map f i parts
 
-opened : (f : Tree → Facts) (parts : List Tree) (i : ℕ) (t : Tree) → i < length parts → t ≡ get_or parts i t → drop i (map f parts) ≡ f t ∷ drop (i + 1) (map f parts)
+pub opened : {A : Type 0} (f : Tree → A) (parts : List Tree) (i : ℕ) (t : Tree) → i < length parts → t ≡ get_or parts i t → drop i (map f parts) ≡ f t ∷ drop (i + 1) (map f parts)
 opened f parts i t h e =
     let o : drop i parts ≡ get_or parts i t ∷ drop (i + 1) parts = rw add-one (drop-cons parts i t h) in
     drop_map f i parts ∙ ap (map f) (o ∙ ap (λ (u : Tree). u ∷ drop (i + 1) parts) (sym e)) ∙ ap (λ q. f t ∷ q) (sym (drop_map f (i + 1) parts))

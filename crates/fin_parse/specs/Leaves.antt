@@ -47,3 +47,6 @@ tokens_of t = (leaves_of t).all
 
 abbrev pub head_parts : Head → HeadParts
 head_parts h = record { kind = h.kind.items; name = h.name.items; format = h.format.items; fill = h.fill.items; shape = h.shape.items }
+
+abbrev pub header_of : Tree → HeadParts
+header_of t = (leaves_of t).head

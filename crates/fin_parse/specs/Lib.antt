@@ -8,3 +8,4 @@ pub mod Breaches
 pub mod Roles
 pub mod Names
 pub mod Leaves
+pub mod HeaderNames
