@@ -9,3 +9,4 @@ pub mod Roles
 pub mod Names
 pub mod Leaves
 pub mod HeaderNames
+pub mod TextNames

@@ -41,7 +41,7 @@ fn check_role(alloc: Global, names: &Names, place: &Place, role: Role, parts: &[
 
 /// The first breach in parts, of which those before a place stand in the outer scope and the others in the inner one.
 #[cycle(checks)]
-fn check_parts(alloc: Global, names: &Names, outer: &Place, inner: &Place, from: usize, parts: &[Tree]) -> Result<Option<Refusal>, AllocError>
+pub(crate) fn check_parts(alloc: Global, names: &Names, outer: &Place, inner: &Place, from: usize, parts: &[Tree]) -> Result<Option<Refusal>, AllocError>
     ensures first { IfOk result (λ r. r ≡ spec.first_of (spec.part_breaches from (map (spec.facts_of names.now.text.now) parts.now) (spec.scope_of names.now.tensors.now outer.now) (spec.scope_of names.now.tensors.now inner.now))) }
 {
     let mut left = from;

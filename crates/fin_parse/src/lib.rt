@@ -16,6 +16,7 @@ mod syntax;
 #[cfg(test)]
 mod tests;
 mod text;
+mod text_names;
 mod tree;
 mod trees;
 
@@ -26,5 +27,6 @@ pub use reader::read_phrase;
 pub use scope::{Bound, Tensor};
 pub use syntax::read_syntax;
 pub use text::read_text;
+pub use text_names::check_names;
 pub use tree::{Room, Stop, Tree};
 pub use trees::Text;
