@@ -10,3 +10,4 @@ pub mod Names
 pub mod Leaves
 pub mod HeaderNames
 pub mod TextNames
+pub mod FormatWords

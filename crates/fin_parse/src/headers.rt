@@ -98,7 +98,7 @@ fn shape_count(tokens: &[Token]) -> Option<u64>
     }
 }
 
-fn levels_of(words: &[Token]) -> u64
+pub(crate) fn levels_of(words: &[Token]) -> u64
     ensures value { result ≡ spec.levels_of words.now }
 {
     words.iter().filter(|word| is_level(word.kind)).count() as u64

@@ -5,6 +5,7 @@ mod breaches;
 mod class;
 mod counts;
 mod cursor;
+mod format_words;
 mod grammar;
 mod headers;
 mod heads;
