@@ -4,6 +4,7 @@ pub mod Steps
 pub mod Examples
 pub mod Symbols
 pub mod TextForms
+pub mod OneBreach
 pub mod Classes
 pub mod LastLines
 pub mod Finds

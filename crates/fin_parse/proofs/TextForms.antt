@@ -135,8 +135,9 @@ crowded_text k old mid hs g goes = (
   g.along.taken,
   g.along.split,
   record {
-    full = (hs, read_so_far.group, elim g.stopped [ inl e ↦ e | inr e ↦ impossible (sym e ∙ goes) ]);
+    full = (hs, read_so_far, all_taken);
     further = goes;
+    ends = λ after text next h. no_further after text next h.0 h.1 h.2 h.3 h.4;
   },
 )
   where
@@ -145,6 +146,33 @@ crowded_text k old mid hs g goes = (
 
     read_so_far : AreHeaders k (signs g.along.taken) hs
     read_so_far = subst (λ q. AreHeaders k q hs) (nil-append (signs g.along.taken)) built
+
+    all_taken : length hs ≡ k.headers
+    all_taken = elim g.stopped [ inl e ↦ e | inr e ↦ impossible (sym e ∙ goes) ]
+
+    -- statements don't begin as headers do
+    not_stmts : (z : List Sign) (us : List Tree) → IsGroup k Stmt z us → begins Header (look z) ≡ true → ⊥
+    not_stmts z us m first = elim (group_leads m) [
+      | inl h ↦ impossible (sym (ap (λ w. begins Header (look w)) h.0) ∙ first)
+      | inr h ↦ impossible (sym (header_stops (look z) (not_true (goes_on_headers (look z)) (header_clear (look z) (subst (λ w. begins Stmt (look w) ≡ true) (nil-append z) (h []))))).0 ∙ first)
+    ]
+
+    -- behind all headers that there may be, a text has statements
+    no_headers : (us more_of : List Tree) (w z : List Sign) (body : List Tree) → us ≡ hs ++ more_of → length us ≤ k.headers → IsGroup k Header w more_of → IsGroup k Stmt z body → begins Header (look (w ++ z)) ≡ true → ⊥
+    no_headers us [] w z body q few none m first = not_stmts z body m first
+    no_headers us (t ∷ ts) w z body q few (more h n) m first =
+        let l : length (hs ++ t ∷ ts) ≡ length hs + length (t ∷ ts) = length-append hs (t ∷ ts) in
+        let s : length us ≡ length (hs ++ t ∷ ts) = ap length q in
+        let a : length hs ≡ k.headers = all_taken in
+        absurd (omega arith)
+
+    no_further : (after : List Sign) (text : Text) → look after ≡ look (signs mid) → (y z : List Sign) → signs g.along.taken ++ after ≡ y ++ z → AreHeaders k y text.headers → IsGroup k Stmt z text.body → ⊥
+    no_further after text next y z q h m =
+        let x = signs g.along.taken in
+        let stop : goes_on_headers (look z) ≡ false = subst (λ w. goes_on_headers (look w) ≡ false) (nil-append z) ((text_from k).follow k z [] text.headers text (refl, m) refl) in
+        let o = g.along.reached.only k y z after text.headers (same_room k) h stop (sym q) next in
+        let left : after ≡ o.0 ++ z = append_cancel_left x after (o.0 ++ z) (q ∙ ap (λ w. w ++ z) o.1 ∙ append_assoc x o.0 z) in
+        no_headers text.headers o.2.0 o.0 z text.body o.2.1 o.2.3 o.2.2 m (sym (ap (λ w. begins Header (look w)) left) ∙ ap (begins Header) next ∙ goes)
 
 pub text_ended : (k : Room) (old mid new : List Token) (hs body : List Tree) → Gathered k old mid hs → begins Header (look (signs mid)) ≡ false → Along (Groups Stmt) k (continues (Many Stmt)) mid new (Ended body) → new ≡ [] → IsWhole k old (record { headers = hs; body = body })
 text_ended k old mid new hs body g ended s none_left =

@@ -63,10 +63,11 @@ pub record IsTooDeep (k : Room) (before left : List Token) : Type 0 where
   pub opens : (o : Option Token) × (z : List Sign) × (text : Text) × (class_at o ≡ look (signs left)) × Texts k (signs before ++ (beyond o ∷ z)) text
   pub ends : (after : List Sign) (text : Text) → look after ≡ look (signs left) → IsReal after → Texts k (signs before ++ after) text → ⊥
 
--- The tokens before are as many headers as there may be, and the next token begins a further one.
+-- The tokens before are as many headers as there may be, and the next token begins a further one, with which no text goes on.
 pub record IsCrowded (k : Room) (before left : List Token) : Type 0 where
-  pub full : (us : List Tree) × IsGroup k Header (signs before) us × (length us ≡ k.headers)
+  pub full : (us : List Tree) × AreHeaders k (signs before) us × (length us ≡ k.headers)
   pub further : begins Header (look (signs left)) ≡ true
+  pub ends : (after : List Sign) (text : Text) → look after ≡ look (signs left) → Texts k (signs before ++ after) text → ⊥
 
 abbrev pub TextRead : Room → List Token → List Token → Result Text Stop → Type 0
 TextRead k old new (Ok text) = IsWhole k old text
