@@ -9,3 +9,4 @@ pub mod LastLines
 pub mod Finds
 pub mod Parts
 pub mod HeaderParts
+pub mod FormParts
