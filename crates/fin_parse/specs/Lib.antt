@@ -13,3 +13,4 @@ pub mod HeaderNames
 pub mod TextNames
 pub mod FormatWords
 pub mod TextForms
+pub mod Verdict

@@ -22,6 +22,7 @@ mod text_forms;
 mod text_names;
 mod tree;
 mod trees;
+mod verdict;
 
 pub use class::{Class, class_of};
 pub use cursor::Cursor;
@@ -34,3 +35,4 @@ pub use text_forms::check_forms;
 pub use text_names::check_names;
 pub use tree::{Room, Stop, Tree};
 pub use trees::Text;
+pub use verdict::read_trees;
