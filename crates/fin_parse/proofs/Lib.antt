@@ -10,3 +10,4 @@ pub mod LastLines
 pub mod Finds
 pub mod Parts
 pub mod HeaderParts
+pub mod FormParts

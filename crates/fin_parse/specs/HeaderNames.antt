@@ -8,6 +8,7 @@ use Rattle.fin_lex.specs.declared.token.TokenKind.{TokenKind}
 use Rattle.fin_lex.specs.declared.token.TokenKind.TheVariants as kind
 use Rattle.fin_parse.specs.declared.scope.Tensor.{Tensor}
 use Rattle.fin_parse.specs.Names.{breach, binding, tensor_named}
+use Rattle.fin_parse.specs.Fills.{head_token}
 use Rattle.fin_parse.specs.Leaves.{HeadParts}
 
 -- a level, and not a decoration or `element`
@@ -17,11 +18,6 @@ is_level _ = false
 
 abbrev pub levels_of : List Token → ℕ
 levels_of words = count_by (λ (t : Token). is_level t.kind) words
-
--- the first token
-abbrev pub head_token : List Token → Option Token
-head_token [] = None
-head_token (t ∷ ts) = Some t
 
 -- how many numbers a shape has, behind its first word
 abbrev pub shape_count : List Token → Option ℕ

@@ -7,7 +7,10 @@ pub mod Text
 pub mod Breaches
 pub mod Roles
 pub mod Names
+pub mod Fills
 pub mod Leaves
 pub mod HeaderNames
 pub mod TextNames
 pub mod FormatWords
+pub mod TextForms
+pub mod Verdict

@@ -86,7 +86,7 @@ fn stands_last(place: u8, mut words: &[Token]) -> bool
     true
 }
 
-fn begins_with(place: u8, words: &[Token]) -> bool
+pub(crate) fn begins_with(place: u8, words: &[Token]) -> bool
     ensures value { result ≡ spec.begins_with place words.now }
 {
     match words {

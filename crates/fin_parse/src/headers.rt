@@ -4,6 +4,7 @@ ghost use Rattle.fin_parse.specs.HeaderNames as spec;
 ghost use Rattle.fin_parse.specs.Leaves.{head_parts, header_of};
 ghost use Rattle.fin_parse.specs.Names.{first_of};
 
+use crate::fills::head_token;
 use crate::heads::{Head, head_of};
 use crate::names::{binding, breach, tensor_named};
 use crate::scope::Tensor;
@@ -31,7 +32,7 @@ pub(crate) fn check_headers(alloc: Global, text: &[u8], headers: &[Tree], tensor
 fn add_tensor(tensors: &mut Vec<Tensor>, head: &Head) -> Result<(), AllocError>
     ensures ok { OnOk result (tensors.new.items ≡ spec.with_tensor tensors.old.items (head_parts head.now)) }
 {
-    match first_token(head.name.as_slice()) {
+    match head_token(head.name.as_slice()) {
         Some(name) => {
             let levels = levels_of(head.format.as_slice());
             tensors.push(Tensor { name, levels })?;
@@ -46,11 +47,11 @@ fn head_breach(text: &[u8], earlier: &[Tensor], head: &Head) -> Option<Refusal>
 {
     let levels = levels_of(head.format.as_slice());
     let count = shape_count(head.shape.as_slice());
-    let found = shape_breach(first_token(head.kind.as_slice()), count, levels);
+    let found = shape_breach(head_token(head.kind.as_slice()), count, levels);
     if found.is_some() {
         return found;
     }
-    name_breach(text, earlier, first_token(head.name.as_slice()))
+    name_breach(text, earlier, head_token(head.name.as_slice()))
 }
 
 fn shape_breach(first: Option<Token>, count: Option<u64>, levels: u64) -> Option<Refusal>
@@ -77,15 +78,6 @@ fn name_breach(text: &[u8], earlier: &[Tensor], name: Option<Token>) -> Option<R
     match name {
         None => None,
         Some(name) => binding(name, tensor_named(text, earlier, name).is_some()),
-    }
-}
-
-fn first_token(tokens: &[Token]) -> Option<Token>
-    ensures value { result ≡ spec.head_token tokens.now }
-{
-    match tokens {
-        [] => None,
-        [token, ..] => Some(*token),
     }
 }
 

@@ -21,3 +21,17 @@ pub struct Place {
     pub bound: Vec<Bound>,
     pub begun: Option<Token>,
 }
+
+/// A whole number by its sign and magnitude; 0 has no minus.
+#[derive(Clone, Copy, Debug, PartialEq, Eq)]
+pub struct Literal {
+    pub negative: bool,
+    pub magnitude: u64,
+}
+
+/// The fill of a tensor, by the name in its header.
+#[derive(Clone, Copy, Debug, PartialEq, Eq)]
+pub struct Fill {
+    pub name: Token,
+    pub value: Literal,
+}
