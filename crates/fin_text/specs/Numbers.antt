@@ -1,5 +1,5 @@
--- How numbers are spelled.
-use Rattle.std.specs.Prelude.{◌≡◌, ℕ, ◌^◌, ◌<◌, ◌≤◌, ℤ, List, ◌∷◌, length, slice_index, flat_map}
+-- How numbers are spelled, one and many.
+use Rattle.std.specs.Prelude.{◌≡◌, ◌≢◌, ℕ, ◌^◌, ◌<◌, ◌≤◌, ℤ, List, [], ◌∷◌, ◌++◌, All, length, slice_index, flat_map, Option, MatchOption}
 use Rattle.std.specs.Fmt.{decimal, signed_decimal}
 
 -- the numbers of a tensor that are no values: extents, coordinates, places
@@ -25,3 +25,35 @@ spaced vs = words spelled vs
 -- other numbers there
 abbrev pub spaced_sizes : List ℕ → List ℕ
 spaced_sizes ns = words decimal ns
+
+-- neither a space nor a newline
+abbrev pub IsInWord : ℕ → Type 0
+IsInWord b = (b ≢ 32) × (b ≢ 10)
+
+-- words are told from each other, and from what stands between them
+pub record IsSpelling {A : Type 0} (word : A → List ℕ) (Fits : A → Type 0) : Type 0 where
+  pub in_word : (v : A) → Fits v → All IsInWord (word v)
+  pub one_to_one : (v w : A) → Fits v → Fits w → word v ≡ word w → v ≡ w
+
+-- a word is read: the one value that it spells, if there is one
+abbrev pub ReadsWord : {A : Type 0} → (A → List ℕ) → (A → Type 0) → List ℕ → Option A → Type 0
+ReadsWord {A} word Fits read result = MatchOption result
+    ((v : A) → Fits v → read ≢ word v)
+    (λ v. Fits v × (read ≡ word v))
+
+-- the words of a line are read: the one list that they spell, if there is one
+abbrev pub ReadsWords : {A : Type 0} → (A → List ℕ) → (A → Type 0) → List ℕ → Option (List A) → Type 0
+ReadsWords {A} word Fits line result = MatchOption result
+    ((vs : List A) → All Fits vs → line ≢ words word vs)
+    (λ vs. (line ≡ words word vs) × All Fits vs × ((ws : List A) → All Fits ws → line ≡ words word ws → ws ≡ vs))
+
+-- the end of a word: a space, or nothing
+abbrev pub EndsWord : List ℕ → Type 0
+EndsWord [] = Unit {0}
+EndsWord (b ∷ bs) = b ≡ 32
+
+-- a line's first word, and what follows it
+pub record IsFirstWord (line word after : List ℕ) : Type 0 where
+  pub whole : line ≡ word ++ after
+  pub spaceless : All (λ b. b ≢ 32) word
+  pub ends : EndsWord after

@@ -1,6 +1,5 @@
 -- The text of a tensor, by its lines.
 use Rattle.std.specs.Prelude.{ℕ, ℤ, List, [], ◌∷◌, ◌++◌, flat_map, codes}
-use Rattle.std.specs.Fmt.{decimal}
 use Rattle.fin_text.specs.Numbers.{spaced, spaced_sizes}
 
 -- lines, each ended by a newline

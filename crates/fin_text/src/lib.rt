@@ -2,5 +2,7 @@
 #![tactic(auto)]
 
 mod numbers;
+mod words;
 
 pub use numbers::{read_size, read_value};
+pub use words::{read_sizes, read_values};

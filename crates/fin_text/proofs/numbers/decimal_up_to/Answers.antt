@@ -1,4 +1,4 @@
-use Rattle.std.proofs.Common.{arith, refl, drop, subst}
+use Rattle.std.proofs.Common.{arith, refl}
 use Rattle.fin_text.proofs.Digits.{leads_badly, no_digit, too_great, is_decimal, all_digits_at_end, value_at_end}
 use Rattle.fin_text.proofs.numbers.decimal_up_to.Goals as goal
 
@@ -19,6 +19,6 @@ returns c =
     let ds = c.args.digits.now in let at = c.loop-byte.byte-index in (
       c.loop-byte.invariant.small,
       is_decimal ds c.loop-byte.value
-      (all_digits_at_end ds at c.loop-byte-test.false c.loop-byte.invariant.digits) (c.if-not-leads_well.ensures.0 refl)
-      (value_at_end ds at c.loop-byte.value c.loop-byte-test.false c.loop-byte.invariant.value) (omega arith),
+          (all_digits_at_end ds at c.loop-byte-test.false c.loop-byte.invariant.digits) (c.if-not-leads_well.ensures.0 refl)
+          (value_at_end ds at c.loop-byte.value c.loop-byte-test.false c.loop-byte.invariant.value) (omega arith),
     )
