@@ -74,7 +74,7 @@ gives_other shape fill es fs k v w same n h =
     λ i. record { shape = shape; fill = fill; cells = c i }
 
 -- ---- what a value given at one place changes
-tied : (k : List ℕ) → is_at (slice_cmp nat_cmp k) k ≡ true
+pub tied : (k : List ℕ) → is_at (slice_cmp nat_cmp k) k ≡ true
 tied k = (eq_by_cmp_equiv nat_list_cmp_total).refl k
 
 apart : (q k : List ℕ) → q ≢ k → is_at (slice_cmp nat_cmp q) k ≡ false
@@ -119,7 +119,7 @@ kept_with : (f : TensorFunction) (cs ds : List ℕ) (v : ℤ) (b : Bool) → (b 
 kept_with f cs ds v true g h = g refl
 kept_with f cs ds v false g h = h
 
-tied_are_same : (ds cs : List ℕ) → tests ds cs ≡ true → ds ≡ cs
+pub tied_are_same : (ds cs : List ℕ) → tests ds cs ≡ true → ds ≡ cs
 tied_are_same ds cs e = elim (slice_cmp nat_cmp ds cs) as (λ r. slice_cmp nat_cmp ds cs ≡ r → is_eq r ≡ true → ds ≡ cs) [
   | Less ↦ λ _ h. cc
   | Equal ↦ λ p _. only_equal_tie ds cs p

@@ -1,2 +1,6 @@
+pub mod Extents
+pub mod Levels
+pub mod Placement
+pub mod Stands
 pub mod TensorFunction
 pub mod formers
