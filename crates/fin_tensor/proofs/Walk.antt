@@ -28,6 +28,26 @@ stored_lengths count [] (n ∷ ns) ps val h = absurd h
 stored_lengths count (l ∷ ls) [] ps val h = absurd h
 stored_lengths count (l ∷ ls) (n ∷ ns) [] val h = absurd h
 
+pub stored_levels : (count : ℕ) (ls : List Level) (ns : List ℕ) (ps : List Part) (val : List ℤ) → IsStored count ls ns ps val → length ns ≡ length ls
+stored_levels count [] [] [] val h = refl
+stored_levels count (l ∷ ls) (n ∷ ns) (p ∷ ps) val h = ap suc (stored_levels (positions n count p) ls ns ps val h.3)
+stored_levels count [] [] (p ∷ ps) val h = absurd h
+stored_levels count [] (n ∷ ns) ps val h = absurd h
+stored_levels count (l ∷ ls) [] ps val h = absurd h
+stored_levels count (l ∷ ls) (n ∷ ns) [] val h = absurd h
+
+small_cons : (n : ℕ) (ns : List ℕ) → n ≤ 2 ^ 40 → AreSmall ns → AreSmall (n ∷ ns)
+small_cons n ns h r zero lt = h
+small_cons n ns h r (suc k) lt = r k (omega arith)
+
+pub stored_extents : (count : ℕ) (ls : List Level) (ns : List ℕ) (ps : List Part) (val : List ℤ) → IsStored count ls ns ps val → AreSmall ns
+stored_extents count [] [] [] val h = λ k lt. absurd (omega arith)
+stored_extents count (l ∷ ls) (n ∷ ns) (p ∷ ps) val h = small_cons n ns h.1 (stored_extents (positions n count p) ls ns ps val h.3)
+stored_extents count [] [] (p ∷ ps) val h = absurd h
+stored_extents count [] (n ∷ ns) ps val h = absurd h
+stored_extents count (l ∷ ls) [] ps val h = absurd h
+stored_extents count (l ∷ ls) (n ∷ ns) [] val h = absurd h
+
 -- a position of level k
 pub level_at : (k count : ℕ) (ls : List Level) (ns : List ℕ) (ps : List Part) (val : List ℤ) (pos : ℕ) → IsStored count ls ns ps val → k < length ps → pos < fibres ns ps count k → IsAt (slice_index ns k) (slice_index_or ps k part.Dense) pos
 level_at zero count (l ∷ ls) (n ∷ ns) (p ∷ ps) val pos h lt within = record { kind = l; count = count; within = within; few = h.0; small = h.1; level = h.2; positions = stored_small (positions n count p) ls ns ps val h.3 }

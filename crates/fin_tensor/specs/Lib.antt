@@ -1,3 +1,4 @@
+pub mod Canon
 pub mod Extents
 pub mod Levels
 pub mod Placement
