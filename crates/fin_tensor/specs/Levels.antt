@@ -148,7 +148,7 @@ IsStop-prop n count ptr stop = hlevel props
 IsStart-prop : (n count : ℕ) (ptr start : List ℕ) → IsProp (IsStart n count ptr start)
 IsStart-prop n count ptr start = hlevel props
 
-IsLevel-prop : (l : Level) (n count : ℕ) (p : Part) → IsProp (IsLevel l n count p)
+pub IsLevel-prop : (l : Level) (n count : ℕ) (p : Part) → IsProp (IsLevel l n count p)
 IsLevel-prop level.Dense n count part.Dense = Unit-prop
 IsLevel-prop level.List n count (part.Keys ptr idx) = ×_prop (IsPtr-prop count ptr) (IsIdx-prop n count ptr idx)
 IsLevel-prop level.Dict n count (part.Keys ptr idx) = ×_prop (IsPtr-prop count ptr) (IsIdx-prop n count ptr idx)
