@@ -1,1 +1,4 @@
 pub mod Words
+pub mod Splits
+pub mod Chains
+pub mod OneLine

@@ -28,3 +28,10 @@ pub fn read_first_form(alloc: Global, text: &[u8]) -> Result<FirstForm, FormFail
 {
     Err(FormFail::Departs(1))
 }
+
+struct Program {
+    left: Name,
+    right: Name,
+    product: Name,
+    index: Name,
+}
