@@ -2,3 +2,4 @@ pub mod Words
 pub mod Splits
 pub mod Chains
 pub mod OneLine
+pub mod LineKinds

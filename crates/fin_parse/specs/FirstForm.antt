@@ -7,18 +7,27 @@ use Rattle.fin_parse.specs.declared.lines.FormFail.{FormFail}
 use Rattle.fin_parse.specs.declared.lines.FormFail.TheVariants as fail
 use Rattle.fin_parse.specs.Lines.{Demand, none, new_name, size, words, Holds, Follows}
 
+-- the line that declares a tensor
+abbrev pub declaration : List ℕ → List ℕ → List ℕ
+declaration keyword name = concat (keyword ∷ name ∷ codes " dense element" ∷ [])
+
+-- the line of the loop
+abbrev pub loop_of : List ℕ → List ℕ → List ℕ → List ℕ → List ℕ
+loop_of a b y i =
+    concat
+    (codes "for " ∷ i ∷ codes " { " ∷ y ∷ codes "[" ∷ i ∷ codes "] += " ∷ a ∷ codes "[" ∷ i ∷ codes "] * " ∷ b ∷ codes "[" ∷ i ∷ codes "] }" ∷ [])
+
 -- the 18 lines
 abbrev pub lines_of : FirstForm → List (List ℕ)
 lines_of f =
     let a = f.left.name in
     let b = f.right.name in
     let y = f.product in
-    let i = f.index in
-    concat (codes "in " ∷ a ∷ codes " dense element" ∷ [])
-    ∷ concat (codes "in " ∷ b ∷ codes " dense element" ∷ [])
-    ∷ concat (codes "out " ∷ y ∷ codes " dense element" ∷ [])
+    declaration (codes "in ") a
+    ∷ declaration (codes "in ") b
+    ∷ declaration (codes "out ") y
     ∷ concat (y ∷ codes " .= 0" ∷ [])
-    ∷ concat (codes "for " ∷ i ∷ codes " { " ∷ y ∷ codes "[" ∷ i ∷ codes "] += " ∷ a ∷ codes "[" ∷ i ∷ codes "] * " ∷ b ∷ codes "[" ∷ i ∷ codes "] }" ∷ [])
+    ∷ loop_of a b y f.index
     ∷ codes "%%"
     ∷ (vector_lines a f.left.extent f.left.values ++ vector_lines b f.right.extent f.right.values)
 

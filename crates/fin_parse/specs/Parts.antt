@@ -1,5 +1,5 @@
 -- Parts of a text that are read one after another, each by its lines.
-use Rattle.std.specs.Prelude.{◌≡◌, ◌≢◌, ℕ, ◌+◌, ◌<◌, ℤ, List, [], ◌∷◌, ◌++◌, All, codes, Result, Ok, Err}
+use Rattle.std.specs.Prelude.{◌≡◌, ◌≢◌, ℕ, ◌+◌, ◌<◌, ℤ, List, [], ◌∷◌, ◌++◌, All, codes, Option, MatchOption, Result, Ok, Err}
 use Rattle.std.specs.List.{concat}
 use Rattle.fin_text.specs.Numbers.{spaced, spaced_sizes}
 use Rattle.fin_text.specs.Text.{text_of_lines, vector_lines}
@@ -7,7 +7,14 @@ use Rattle.fin_parse.specs.declared.first_form.Program.{Program}
 use Rattle.fin_parse.specs.declared.lines.FormFail.{FormFail}
 use Rattle.fin_parse.specs.declared.lines.FormFail.TheVariants.{Departs, Memory}
 use Rattle.fin_parse.specs.declared.lines.Lines.{Lines}
+use Rattle.fin_parse.specs.FirstForm.{declaration, loop_of}
 use Rattle.fin_parse.specs.Lines.{Demand, none, new_name, size, words, Holds, Follows}
+
+-- what a line says: the value whose line it is, or it is no value's
+abbrev pub Says : {V L : Type 0} → (V → List ℕ) → (V → Demand) → (L → V) → List ℕ → Option L → Type 0
+Says {V} text demand view line result = MatchOption result
+    ((v : V) → Holds (demand v) → line ≢ text v)
+    (λ v. Holds (demand (view v)) × (line ≡ text (view v)))
 
 -- The lines of a part for each value, and what they ask.
 pub record Layout (V : Type 0) : Type 0 where
@@ -22,32 +29,37 @@ one_line text demand = record { lines = λ v. text v ∷ []; demands = λ v. dem
 abbrev pub known_line : List (List ℕ) → Layout (Unit {0})
 known_line pieces = one_line (λ _. concat pieces) (λ _. none)
 
--- a new name between two texts
+-- the declaration of a new name
 abbrev pub name_line : List ℕ → List (List ℕ) → Layout (List ℕ)
-name_line before earlier = one_line (λ name. concat (before ∷ name ∷ codes " dense element" ∷ [])) (λ name. new_name name earlier)
+name_line keyword earlier = one_line (declaration keyword) (λ name. new_name name earlier)
 
 -- the loop over a new variable
 abbrev pub loop_line : List ℕ → List ℕ → List ℕ → Layout (List ℕ)
-loop_line a b y =
-    one_line
-    (λ i. concat (codes "for " ∷ i ∷ codes " { " ∷ y ∷ codes "[" ∷ i ∷ codes "] += " ∷ a ∷ codes "[" ∷ i ∷ codes "] * " ∷ b ∷ codes "[" ∷ i ∷ codes "] }" ∷ []))
-    (λ i. new_name i (a ∷ b ∷ y ∷ []))
+loop_line a b y = one_line (loop_of a b y) (λ i. new_name i (a ∷ b ∷ y ∷ []))
+
+-- an extent
+abbrev pub shape_of : ℕ → List ℕ
+shape_of n = codes "shape" ++ spaced_sizes (n ∷ [])
 
 abbrev pub extent_line : Layout ℕ
-extent_line = one_line (λ n. codes "shape" ++ spaced_sizes (n ∷ [])) size
+extent_line = one_line shape_of size
+
+-- so many values
+abbrev pub val_of : List ℤ → List ℕ
+val_of values = codes "val" ++ spaced values
 
 abbrev pub values_line : ℕ → Layout (List ℤ)
-values_line n = one_line (λ values. codes "val" ++ spaced values) (words n)
+values_line n = one_line val_of (words n)
 
 -- the lines 1 to 6
 abbrev pub program : Layout Program
 program = record {
   lines = λ p.
-      concat (codes "in " ∷ p.left ∷ codes " dense element" ∷ [])
-      ∷ concat (codes "in " ∷ p.right ∷ codes " dense element" ∷ [])
-      ∷ concat (codes "out " ∷ p.product ∷ codes " dense element" ∷ [])
+      declaration (codes "in ") p.left
+      ∷ declaration (codes "in ") p.right
+      ∷ declaration (codes "out ") p.product
       ∷ concat (p.product ∷ codes " .= 0" ∷ [])
-      ∷ concat (codes "for " ∷ p.index ∷ codes " { " ∷ p.product ∷ codes "[" ∷ p.index ∷ codes "] += " ∷ p.left ∷ codes "[" ∷ p.index ∷ codes "] * " ∷ p.right ∷ codes "[" ∷ p.index ∷ codes "] }" ∷ [])
+      ∷ loop_of p.left p.right p.product p.index
       ∷ codes "%%"
       ∷ [];
   demands = λ p.

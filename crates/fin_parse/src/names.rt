@@ -1,10 +1,11 @@
 //! The names of tensors and variables.
-ghost use Rattle.std.specs.Prelude.{◌≡◌, ◌↔◌, IsTrue, Contains, map, length, ◌<◌};
+ghost use Rattle.std.specs.Prelude.{◌≡◌, ◌↔◌, IsTrue, IfOk, Contains, map, length, ◌<◌};
 ghost use Rattle.std.specs.List.{AllPass, list_any};
 ghost use Rattle.std.specs.Str.{bytes_eq};
 ghost use Rattle.fin_parse.specs.Names.{IsName, begins_name, continues_name, reserved_words};
 
 use fin_tensor::Name;
+use std::alloc::{AllocError, Global};
 
 const MOST_BYTES: usize = 32;
 
@@ -32,6 +33,17 @@ pub fn is_name(word: &[u8]) -> bool
         && begins_name(word[0])
         && all_continue(word)
         && !is_reserved(word)
+}
+
+/// The name of these bytes.
+pub(crate) fn name_from(alloc: Global, bytes: &[u8]) -> Result<Name, AllocError>
+    ensures { IfOk result (λ name. name ≡ bytes.now) }
+{
+    let mut name = Name::new(alloc);
+    for byte in bytes {
+        name.push(*byte)?;
+    }
+    Ok(name)
 }
 
 fn begins_name(byte: u8) -> bool
