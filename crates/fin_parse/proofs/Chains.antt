@@ -13,10 +13,14 @@ use Rattle.fin_parse.specs.Lines.{Demand, Holds, Follows}
 use Rattle.fin_parse.specs.Parts.{Layout, one_line, HasRead, DepartsFrom, Fails}
 use Rattle.fin_parse.proofs.Splits.{cut_once}
 
+-- Each value has so many lines.
+pub record IsCounted {V : Type 0} (layout : Layout V) (count : ℕ) : Type 0 where
+  pub lines : (v : V) → length (layout.lines v) ≡ count
+  pub demands : (v : V) → length (layout.demands v) ≡ count
+
 -- Each value has so many lines, and a text begins with those of one value alone.
 pub record IsExact {V : Type 0} (layout : Layout V) (count : ℕ) : Type 0 where
-  pub lines_counted : (v : V) → length (layout.lines v) ≡ count
-  pub demands_counted : (v : V) → length (layout.demands v) ≡ count
+  pub counted : IsCounted layout count
   pub only : (v w : V) (r s : List ℕ) → All Holds (layout.demands v) → All Holds (layout.demands w) → text_of_lines (layout.lines v) ++ r ≡ text_of_lines (layout.lines w) ++ s → (v ≡ w) × (r ≡ s)
 
 -- a part, and behind it one that depends on its value
@@ -29,14 +33,16 @@ then first second = record {
 pub text_of_one : (x r : List ℕ) → text_of_lines (x ∷ []) ++ r ≡ x ++ 10 ∷ r
 text_of_one x r = simp (append_assoc, append-nil)
 
+pub one_line_counted : {V : Type 0} (text : V → List ℕ) (demand : V → Demand) → IsCounted (one_line text demand) 1
+one_line_counted text demand = record { lines = λ v. refl; demands = λ v. refl }
+
 -- a line whose spelling tells its value, and that has no newline
 pub one_line_exact : {V : Type 0} (text : V → List ℕ) (demand : V → Demand)
     → ((v : V) → Holds (demand v) → All (λ b. b ≢ 10) (text v))
     → ((v w : V) → Holds (demand v) → Holds (demand w) → text v ≡ text w → v ≡ w)
     → IsExact (one_line text demand) 1
 one_line_exact text demand whole tells = record {
-  lines_counted = λ v. refl;
-  demands_counted = λ v. refl;
+  counted = one_line_counted text demand;
   only = λ v w r s p q e.
       let hv = All-head Holds (demand v) [] p in
       let hw = All-head Holds (demand w) [] q in
@@ -53,16 +59,21 @@ All-append_left xs ys h = subst (All Holds) (take_at xs ys (length xs) refl) (Al
 All-append_right : (xs ys : List Demand) → All Holds (xs ++ ys) → All Holds ys
 All-append_right xs ys h = subst (All Holds) (drop_at xs ys (length xs) refl) (All-drop Holds (length xs) (xs ++ ys) h)
 
-pub then_exact : {V W : Type 0} (first : Layout V) (second : V → Layout W) (s t : ℕ) → IsExact first s → ((v : V) → IsExact (second v) t) → IsExact (then first second) (s + t)
-then_exact {V} {W} first second s t f g = record {
-  lines_counted = λ p. omega (arith, length-append (first.lines p.0) ((second p.0).lines p.1), f.lines_counted p.0, (g p.0).lines_counted p.1);
-  demands_counted = λ p. omega (arith, length-append (first.demands p.0) ((second p.0).demands p.1), f.demands_counted p.0, (g p.0).demands_counted p.1);
+pub then_counted : {V W : Type 0} (first : Layout V) (second : V → Layout W) (s t : ℕ) → IsCounted first s → ((v : V) → IsCounted (second v) t) → IsCounted (then first second) (s + t)
+then_counted first second s t f g = record {
+  lines = λ p. omega (arith, length-append (first.lines p.0) ((second p.0).lines p.1), f.lines p.0, (g p.0).lines p.1);
+  demands = λ p. omega (arith, length-append (first.demands p.0) ((second p.0).demands p.1), f.demands p.0, (g p.0).demands p.1);
+}
+
+pub then_exact : {V W : Type 0} (first : Layout V) (second : V → Layout W) (s t : ℕ) → IsExact first s → ((v : V) → IsCounted (second v) t) → ((v : V) → All Holds (first.demands v) → IsExact (second v) t) → IsExact (then first second) (s + t)
+then_exact {V} {W} first second s t f n g = record {
+  counted = then_counted first second s t f.counted n;
   only = λ v w r s p q e.
       let one = f.only v.0 w.0 (text_of_lines ((second v.0).lines v.1) ++ r) (text_of_lines ((second w.0).lines w.1) ++ s)
       (All-append_left (first.demands v.0) ((second v.0).demands v.1) p)
       (All-append_left (first.demands w.0) ((second w.0).demands w.1) q)
       (sym (text_of_both (first.lines v.0) ((second v.0).lines v.1) r) ∙ e ∙ text_of_both (first.lines w.0) ((second w.0).lines w.1) s) in
-      behind v.0 w.0 v.1 w.1 r s one.0
+      behind v.0 w.0 v.1 w.1 r s (All-append_left (first.demands w.0) ((second w.0).demands w.1) q) one.0
       (All-append_right (first.demands v.0) ((second v.0).demands v.1) p)
       (All-append_right (first.demands w.0) ((second w.0).demands w.1) q)
       one.1;
@@ -71,11 +82,11 @@ then_exact {V} {W} first second s t f g = record {
     pairs : (v w : V) (x y : W) → v ≡ w → x ≡ y → ◌≡◌ {A = V × W} (v, x) (w, y)
     pairs v w x y p q = λ i. (p i, q i)
 
-    behind : (v w : V) (x y : W) (r s : List ℕ) → v ≡ w → All Holds ((second v).demands x) → All Holds ((second w).demands y) → text_of_lines ((second v).lines x) ++ r ≡ text_of_lines ((second w).lines y) ++ s → (◌≡◌ {A = V × W} (v, x) (w, y)) × (r ≡ s)
-    behind v w x y r s same p q e =
+    behind : (v w : V) (x y : W) (r s : List ℕ) → All Holds (first.demands w) → v ≡ w → All Holds ((second v).demands x) → All Holds ((second w).demands y) → text_of_lines ((second v).lines x) ++ r ≡ text_of_lines ((second w).lines y) ++ s → (◌≡◌ {A = V × W} (v, x) (w, y)) × (r ≡ s)
+    behind v w x y r s allowed same p q e =
         let p' : All Holds ((second w).demands x) = subst (λ u. All Holds ((second u).demands x)) same p in
         let e' : text_of_lines ((second w).lines x) ++ r ≡ text_of_lines ((second w).lines y) ++ s = subst (λ u. text_of_lines ((second u).lines x) ++ r ≡ text_of_lines ((second w).lines y) ++ s) same e in
-        let two = (g w).only x y r s p' q e' in
+        let two = (g w allowed).only x y r s p' q e' in
         (pairs v w x y same two.0, two.1)
 
 -- both parts were read
@@ -122,15 +133,15 @@ of_second xs ys ds es s k {text} p q h =
     )
 
 -- the first part is departed from
-pub fails_first : {V W : Type 0} (first : Layout V) (second : V → Layout W) (s t : ℕ) → IsExact first s → (V → W) → (a : Lines) (e : FormFail) → Fails first s a e → Fails (then first second) (s + t) a e
+pub fails_first : {V W : Type 0} (first : Layout V) (second : V → Layout W) (s t : ℕ) → IsCounted first s → (V → W) → (a : Lines) (e : FormFail) → Fails first s a e → Fails (then first second) (s + t) a e
 fails_first first second s t f other a (Memory e) h = h
 fails_first first second s t f other a (Departs n) h =
     let v = h.kept.0 in record {
       before = h.before;
       next = h.next;
       within = omega (arith, h.within);
-      kept = ((v, other v), within_first (first.lines v) ((second v).lines (other v)) (first.demands v) ((second v).demands (other v)) h.before (omega (arith, h.within, f.lines_counted v)) (omega (arith, h.within, f.demands_counted v)) h.kept.1);
-      lost = λ p k. h.lost p.0 (of_first (first.lines p.0) ((second p.0).lines p.1) (first.demands p.0) ((second p.0).demands p.1) (h.before + 1) (omega (arith, h.within, f.lines_counted p.0)) (omega (arith, h.within, f.demands_counted p.0)) k);
+      kept = ((v, other v), within_first (first.lines v) ((second v).lines (other v)) (first.demands v) ((second v).demands (other v)) h.before (omega (arith, h.within, f.lines v)) (omega (arith, h.within, f.demands v)) h.kept.1);
+      lost = λ p k. h.lost p.0 (of_first (first.lines p.0) ((second p.0).lines p.1) (first.demands p.0) ((second p.0).demands p.1) (h.before + 1) (omega (arith, h.within, f.lines p.0)) (omega (arith, h.within, f.demands p.0)) k);
     }
 
 -- the second part is departed from
@@ -140,8 +151,8 @@ fails_later {V} {W} first second s t f a b v h (Departs n) k = record {
   before = s + k.before;
   next = omega (arith, h.taken, k.next);
   within = omega (arith, k.within);
-  kept = ((v, k.kept.0), within_second (first.lines v) ((second v).lines k.kept.0) (first.demands v) ((second v).demands k.kept.0) s k.before (f.lines_counted v) (f.demands_counted v) h.met h.split k.kept.1);
-  lost = λ p z. behind p.0 p.1 (of_second (first.lines p.0) ((second p.0).lines p.1) (first.demands p.0) ((second p.0).demands p.1) s (k.before + 1) (f.lines_counted p.0) (f.demands_counted p.0) (subst (λ n. Follows (first.lines p.0 ++ (second p.0).lines p.1) (first.demands p.0 ++ (second p.0).demands p.1) n a.rest.now) (let l : s + k.before + 1 ≡ s + (k.before + 1) = omega arith in l) z));
+  kept = ((v, k.kept.0), within_second (first.lines v) ((second v).lines k.kept.0) (first.demands v) ((second v).demands k.kept.0) s k.before (f.counted.lines v) (f.counted.demands v) h.met h.split k.kept.1);
+  lost = λ p z. behind p.0 p.1 (of_second (first.lines p.0) ((second p.0).lines p.1) (first.demands p.0) ((second p.0).demands p.1) s (k.before + 1) (f.counted.lines p.0) (f.counted.demands p.0) (subst (λ n. Follows (first.lines p.0 ++ (second p.0).lines p.1) (first.demands p.0 ++ (second p.0).demands p.1) n a.rest.now) (let l : s + k.before + 1 ≡ s + (k.before + 1) = omega arith in l) z));
 }
   where
     moved : (u : V) (w : W) (left : List ℕ) → u ≡ v → left ≡ b.rest.now → Follows ((second u).lines w) ((second u).demands w) (k.before + 1) left → ⊥

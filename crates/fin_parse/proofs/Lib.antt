@@ -3,3 +3,4 @@ pub mod Splits
 pub mod Chains
 pub mod OneLine
 pub mod LineKinds
+pub mod VectorParts

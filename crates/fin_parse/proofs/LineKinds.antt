@@ -21,7 +21,7 @@ abbrev pub InLine : List ℕ → Type 0
 InLine = All (λ b. b ≢ 10)
 
 -- a test shows it of a text that is known
-plain : (text : List ℕ) → list_all (λ b. not (nat_eq b 10)) text ≡ true → InLine text
+pub plain : (text : List ℕ) → list_all (λ b. not (nat_eq b 10)) text ≡ true → InLine text
 plain text h = All-weaker (λ b. not (nat_eq b 10) ≡ true) (λ b. b ≢ 10) differs text (AllPass-from_list_all (λ b. not (nat_eq b 10)) text h)
   where
     differs : (b : ℕ) → not (nat_eq b 10) ≡ true → b ≢ 10
@@ -80,8 +80,8 @@ loop_exact a b y p q r =
 
 -- lines that are known
 
-pub known_exact : (pieces : List (List ℕ)) → InLine (concat pieces) → IsExact (known_line pieces) 1
-known_exact pieces k = one_line_exact (λ _. concat pieces) (λ _. none) (λ _ _. k) (λ v w _ _ _. refl)
+pub known_exact : (text : List ℕ) → InLine text → IsExact (known_line text) 1
+known_exact text k = one_line_exact (λ _. text) (λ _. none) (λ _ _. k) (λ v w _ _ _. refl)
 
 -- extents and values
 

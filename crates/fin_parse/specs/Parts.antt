@@ -26,8 +26,8 @@ abbrev pub one_line : {V : Type 0} → (V → List ℕ) → (V → Demand) → L
 one_line text demand = record { lines = λ v. text v ∷ []; demands = λ v. demand v ∷ [] }
 
 -- a line that is known
-abbrev pub known_line : List (List ℕ) → Layout (Unit {0})
-known_line pieces = one_line (λ _. concat pieces) (λ _. none)
+abbrev pub known_line : List ℕ → Layout (Unit {0})
+known_line text = one_line (λ _. text) (λ _. none)
 
 -- the declaration of a new name
 abbrev pub name_line : List ℕ → List (List ℕ) → Layout (List ℕ)

@@ -61,7 +61,7 @@ impl<'a> Lines<'a> {
     pub(crate) fn known(&mut self, pieces: &[&[u8]]) -> Result<(), FormFail>
         requires room { self.old.taken < 18 }
         requires one_line { All (λ b. b ≢ 10) (concat (map (λ p. p.now) pieces.now)) }
-        ensures { Reads (known_line (map (λ p. p.now) pieces.now)) 1 self.old self.new result }
+        ensures { Reads (known_line (concat (map (λ p. p.now) pieces.now))) 1 self.old self.new result }
     {
         let line = self.next()?;
         if is_joined(line, pieces) {
