@@ -53,7 +53,7 @@ one_line_exact text demand whole tells = record {
 text_of_both : (xs ys : List (List ℕ)) (r : List ℕ) → text_of_lines (xs ++ ys) ++ r ≡ text_of_lines xs ++ (text_of_lines ys ++ r)
 text_of_both xs ys r = ap (λ q. q ++ r) (flat_map-append (λ l. l ++ 10 ∷ []) xs ys) ∙ append_assoc (text_of_lines xs) (text_of_lines ys) r
 
-All-append_left : (xs ys : List Demand) → All Holds (xs ++ ys) → All Holds xs
+pub All-append_left : (xs ys : List Demand) → All Holds (xs ++ ys) → All Holds xs
 All-append_left xs ys h = subst (All Holds) (take_at xs ys (length xs) refl) (All-take Holds (length xs) (xs ++ ys) h)
 
 All-append_right : (xs ys : List Demand) → All Holds (xs ++ ys) → All Holds ys

@@ -4,3 +4,5 @@ pub mod Chains
 pub mod OneLine
 pub mod LineKinds
 pub mod VectorParts
+pub mod ProgramParts
+pub mod FormParts
