@@ -6,3 +6,4 @@ pub mod LineKinds
 pub mod VectorParts
 pub mod ProgramParts
 pub mod FormParts
+pub mod FormLaws

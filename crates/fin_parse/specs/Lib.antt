@@ -2,3 +2,4 @@ pub mod Names
 pub mod Lines
 pub mod FirstForm
 pub mod Parts
+pub mod Laws

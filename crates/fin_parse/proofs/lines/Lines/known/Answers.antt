@@ -9,4 +9,4 @@ returns-else-is_joined c =
     let line = c.in_ok-line.ensures in
     is_none (λ _. concat (map (λ p. p.now) c.args.pieces.now)) (λ _. none) c.args.self.now c.next.new.self c.in_ok-line.line.now
     (record { split = line.0; whole = line.1; taken = line.2 })
-    tt (λ v h. c.requires.one_line) (λ v h e. let k = c.is_joined.ensures.1 e in cc)
+    tt (λ v h. c.requires.one_line) (λ _ _ e. let k = c.is_joined.ensures.1 e in cc)
