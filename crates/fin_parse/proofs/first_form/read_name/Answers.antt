@@ -1,0 +1,22 @@
+use Rattle.std.proofs.Common.{List, [], Bor, map, rules, sym, subst}
+use Rattle.std.specs.Prelude.{ℕ}
+use Rattle.std.proofs.lemmas.Result.{err_from_is_err_and}
+use Rattle.fin_parse.specs.FirstForm.{declaration}
+use Rattle.fin_parse.specs.Lines.{new_name}
+use Rattle.fin_parse.specs.Parts.{name_line, HasRead}
+use Rattle.fin_parse.proofs.LineKinds.{declaration_in_line}
+use Rattle.fin_parse.proofs.OneLine.{is_missing, is_none, is_read}
+use Rattle.fin_parse.proofs.first_form.read_name.Goals as goal
+
+pub returns-in_ok-name_from-in-Some : goal.returns-in_ok-name_from-in-Some
+returns-in_ok-name_from-in-Some c =
+    let line = c.in_ok-line.ensures in
+    let earlier = map (λ n. n.now) c.args.earlier.now in
+    subst (HasRead (name_line c.args.keyword.now earlier) 1 c.args.lines.now c.next.new.self) (sym c.in_ok-name_from-in-Some.ensures)
+    (is_read (declaration c.args.keyword.now) (λ n. new_name n earlier) c.args.lines.now c.next.new.self c.in_ok-line.line.now (record { split = line.0; whole = line.1; taken = line.2 }) c.in-Some.name.now c.in-Some.ensures.1 c.in-Some.ensures.0)
+
+pub returns-in-None : goal.returns-in-None
+returns-in-None c =
+    let line = c.in_ok-line.ensures in
+    let earlier = map (λ n. n.now) c.args.earlier.now in
+    is_none (declaration c.args.keyword.now) (λ n. new_name n earlier) c.args.lines.now c.next.new.self c.in_ok-line.line.now (record { split = line.0; whole = line.1; taken = line.2 }) [] (declaration_in_line c.args.keyword.now earlier c.requires.one_line) c.in-None.ensures
