@@ -1,0 +1,6 @@
+pub mod Comings
+pub mod Endings
+pub mod Jobs
+pub mod OneDue
+pub mod Promised
+pub mod Turns
