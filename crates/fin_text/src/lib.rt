@@ -3,6 +3,8 @@
 
 mod numbers;
 mod storage;
+#[cfg(test)]
+mod tests;
 mod words;
 mod write;
 
