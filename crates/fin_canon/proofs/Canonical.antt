@@ -9,12 +9,13 @@ use Rattle.fin_tensor.specs.declared.storage.Storage.{Storage}
 use Rattle.fin_tensor.specs.TensorFunction.{TensorFunction, IsTensor, value_at, is_in_box}
 use Rattle.fin_tensor.specs.Levels.{IsStored, value_from}
 use Rattle.fin_tensor.specs.Stands.{stands}
-use Rattle.fin_tensor.specs.Canon.{Slice, kept, next, canon_parts, canon_values, IsAllowed, IsAllowedIn, IsCanon, HasCanonicalForm}
+use Rattle.fin_tensor.specs.Canon.{Slice, kept, next, canon_parts, canon_values, IsAllowed, IsAllowedIn, IsCanon, HasForm, HasCanonicalForm}
 use Rattle.fin_tensor.proofs.Functions.{agreeing_inside_are_equal, value_is_word}
 use Rattle.fin_tensor.proofs.Same.{same_storage}
 use Rattle.fin_tensor.proofs.Tabulated.{stands_at, tabulated_fill, tabulated_is_tensor, tabulated_shape}
 use Rattle.fin_tensor.proofs.Walk.{stored_levels}
 use Rattle.fin_canon.specs.Laws.{CanKeep, CanonicalIsUnique, CanonicalIsValid, CanonicalStands}
+use Rattle.fin_canon.proofs.Form.{canonical_has_form}
 use Rattle.fin_canon.proofs.Placed.{IsPlacedOver, placed_over}
 use Rattle.fin_canon.proofs.Standing.{slices_stand}
 use Rattle.fin_canon.proofs.Unique.{form_is_unique, next_count}
@@ -96,6 +97,20 @@ of_form format f s h =
     let u = form_is_unique format.levels f.fill f.shape s.parts s.val (slices f) valid h.form in
     record { fill = h.fill; format_is = h.format_is; shape = h.shape; parts = u.0; val = u.1 }
 
+has_form : (format : Format) (f : TensorFunction) (s : Storage) → IsCanon format f s → HasCanonicalForm format f s
+has_form format f s c =
+    let long : length f.shape ≡ length format.levels =
+    subst (λ (ls : List Level). length f.shape ≡ length ls) (levels_is format f s c)
+    (subst (λ (ns : List ℕ). length ns ≡ length s.format.levels) c.shape (stored_levels 1 s.format.levels s.shape s.parts s.val s.valid)) in
+    let form = canonical_has_form format.levels f.fill f.shape (slices f) long in
+    record {
+      fill = c.fill;
+      format_is = c.format_is;
+      shape = c.shape;
+      form = subst (λ (ps : List Part). HasForm format.levels f.fill f.shape ps s.val (slices f)) (sym c.parts)
+          (subst (λ (vs : List ℤ). HasForm format.levels f.fill f.shape (canon_parts format.levels f.fill f.shape (slices f)) vs (slices f)) (sym c.val) form);
+    }
+
 pub canonical_is_unique : CanonicalIsUnique
 canonical_is_unique format f s t =
-    (of_form format f s, λ a b. same_storage s t (a.format_is ∙ sym b.format_is) (a.shape ∙ sym b.shape) (a.parts ∙ sym b.parts) (a.val ∙ sym b.val))
+    ((of_form format f s, has_form format f s), λ a b. same_storage s t (a.format_is ∙ sym b.format_is) (a.shape ∙ sym b.shape) (a.parts ∙ sym b.parts) (a.val ∙ sym b.val))

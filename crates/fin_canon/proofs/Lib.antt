@@ -1,5 +1,6 @@
 pub mod Canonical
 pub mod Fewer
+pub mod Form
 pub mod Kept
 pub mod Placed
 pub mod Positions

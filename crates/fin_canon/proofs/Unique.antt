@@ -59,7 +59,7 @@ back (x ∷ xs) h =
     let e : x - 1 + 1 ≡ x = omega (arith, h 0 (omega arith)) in
     ap (λ (y : ℕ). y ∷ map (λ i. i + 1) (map (λ s. s - 1) xs)) e ∙ ap (λ (l : List ℕ). x ∷ l) (back xs (λ k l. h (suc k) (omega arith)))
 
-piece_length : (xs : List ℕ) (a b : ℕ) → a ≤ b → b ≤ length xs → length (take (b - a) (drop a xs)) ≡ b - a
+pub piece_length : (xs : List ℕ) (a b : ℕ) → a ≤ b → b ≤ length xs → length (take (b - a) (drop a xs)) ≡ b - a
 piece_length xs a b le h = simp (length-take, length-drop) (omega arith)
 
 -- how many coordinates a fibre tells

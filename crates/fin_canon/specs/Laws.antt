@@ -1,5 +1,5 @@
 -- What is true of canonical storages.
-use Rattle.std.specs.Prelude.{◌≡◌, length}
+use Rattle.std.specs.Prelude.{◌≡◌, ◌↔◌, length}
 use Rattle.fin_tensor.specs.declared.format.Format.{Format}
 use Rattle.fin_tensor.specs.declared.storage.Storage.{Storage}
 use Rattle.fin_tensor.specs.TensorFunction.{TensorFunction, IsTensor}
@@ -29,7 +29,7 @@ CanonicalIsValid =
 -- it has its form, and is the only storage that has
 abbrev pub CanonicalIsUnique : Type 0
 CanonicalIsUnique =
-    (format : Format) (f : TensorFunction) (s t : Storage) → (HasCanonicalForm format f s → IsCanon format f s) × (IsCanon format f s → IsCanon format f t → s ≡ t)
+    (format : Format) (f : TensorFunction) (s t : Storage) → (HasCanonicalForm format f s ↔ IsCanon format f s) × (IsCanon format f s → IsCanon format f t → s ≡ t)
 
 -- the function of a storage has a canonical storage in the storage's format
 abbrev pub CanonicalStaysValid : Type 0

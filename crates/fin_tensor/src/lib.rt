@@ -16,6 +16,8 @@ mod placement;
 mod places;
 mod seq;
 mod storage;
+#[cfg(test)]
+mod tests;
 
 pub use coords::Coords;
 pub use draft::Draft;
