@@ -1,16 +1,16 @@
 -- Parts that are read one after another.
-use Rattle.std.proofs.Common.{◌≡◌, ◌≢◌, ◌↔◌, ℕ, suc, ◌+◌, ◌<◌, ◌≤◌, List, [], ◌∷◌, ◌++◌, length, take, drop, refl, sym, ◌∙◌, ap, subst, append_assoc, length-append, arith}
+use Rattle.std.proofs.Common.{◌≡◌, ◌≢◌, ℕ, ◌+◌, ◌≤◌, List, [], ◌∷◌, ◌++◌, length, take, drop, refl, sym, ◌∙◌, ap, subst, append_assoc, length-append, arith}
 use Rattle.std.specs.Prelude.{All}
-use Rattle.std.proofs.lemmas.List.{append-nil, append_cancel_left, take-append-le, take_at, drop_at, take_all}
+use Rattle.std.proofs.lemmas.List.{append-nil, take-append-le, take_at, drop_at}
 use Rattle.std.proofs.lemmas.List.Concat.{flat_map-append}
-use Rattle.std.proofs.lemmas.List.Elements.{All-head, All-tail, All-append, All-nil, All-cons, All-take, All-drop}
+use Rattle.std.proofs.lemmas.List.Elements.{All-head, All-append, All-take, All-drop}
 use Rattle.std.proofs.Math.Seq.{take-add}
 use Rattle.fin_text.specs.Text.{text_of_lines}
 use Rattle.fin_parse.specs.declared.lines.FormFail.{FormFail}
 use Rattle.fin_parse.specs.declared.lines.FormFail.TheVariants.{Departs, Memory}
 use Rattle.fin_parse.specs.declared.lines.Lines.{Lines}
 use Rattle.fin_parse.specs.Lines.{Demand, Holds, Follows}
-use Rattle.fin_parse.specs.Parts.{Layout, one_line, HasRead, DepartsFrom, Fails}
+use Rattle.fin_parse.specs.Parts.{Layout, one_line, HasRead, Fails}
 use Rattle.fin_parse.proofs.Splits.{cut_once}
 
 -- Each value has so many lines.

@@ -1,6 +1,6 @@
 -- The program and the two vectors of a job, one after another.
-use Rattle.std.proofs.Common.{◌≡◌, ◌≢◌, ℕ, ◌+◌, ◌<◌, ◌≤◌, List, [], ◌∷◌, ◌++◌, refl, sym, ◌∙◌, ap, subst, lit<, arith}
-use Rattle.std.specs.Prelude.{ℤ, All, Result, Ok, Err}
+use Rattle.std.proofs.Common.{◌≡◌, ◌≢◌, ℕ, ◌+◌, List, [], ◌++◌, refl, sym, ◌∙◌, ap, subst, lit<, arith}
+use Rattle.std.specs.Prelude.{ℤ, All, Ok, Err}
 use Rattle.std.proofs.lemmas.List.{append-nil}
 use Rattle.fin_text.specs.Text.{text_of_lines}
 use Rattle.fin_parse.specs.declared.first_form.FirstForm.{FirstForm}
@@ -9,7 +9,7 @@ use Rattle.fin_parse.specs.declared.lines.FormFail.{FormFail}
 use Rattle.fin_parse.specs.declared.lines.FormFail.TheVariants as fail
 use Rattle.fin_parse.specs.declared.lines.Lines.{Lines}
 use Rattle.fin_parse.specs.Lines.{none, Holds, Follows}
-use Rattle.fin_parse.specs.FirstForm.{lines_of, demands_of, IsJob, Keeps, Departs, ReadsForm}
+use Rattle.fin_parse.specs.FirstForm.{lines_of, demands_of, Departs, ReadsForm}
 use Rattle.fin_parse.specs.Parts.{Layout, program, vector, HasRead, DepartsFrom, Fails}
 use Rattle.fin_parse.proofs.Chains.{IsCounted, IsExact, then, then_exact, read_then, fails_first, fails_later, All-append_left}
 use Rattle.fin_parse.proofs.LineKinds.{InLine, name_in_line}

@@ -1,19 +1,17 @@
 -- The kinds of lines: none of them has a newline, and each tells what it names.
-use Rattle.std.proofs.Common.{◌≡◌, ◌≢◌, ◌↔◌, ℕ, Bool, true, not, nat_eq, List, [], ◌∷◌, ◌++◌, refl, sym, ◌∙◌, ap, subst, arith}
-use Rattle.std.specs.Prelude.{ℤ, All, codes, Contains}
+use Rattle.std.proofs.Common.{◌≡◌, ◌≢◌, ℕ, true, not, nat_eq, List, [], ◌∷◌, ◌++◌, refl, subst}
+use Rattle.std.specs.Prelude.{ℤ, All, codes}
 use Rattle.std.specs.List.{concat, list_all, AllByRecursion}
-use Rattle.std.specs.Char.{is_ascii_alphanumeric}
 use Rattle.std.proofs.lemmas.List.{append_cancel_left, append_cancel_right}
-use Rattle.std.proofs.lemmas.List.Elements.{All-nil, All-cons, All-append, All-weaker, All-head}
+use Rattle.std.proofs.lemmas.List.Elements.{All-nil, All-cons, All-append, All-weaker}
 use Rattle.std.proofs.lemmas.List.Sums.{AllPass-from_list_all}
-use Rattle.fin_base.specs.Words.{IsWord}
 use Rattle.fin_text.specs.Numbers.{IsSize, spaced, spaced_sizes}
 use Rattle.fin_text.proofs.Reading.{spaced_one_to_one, spaced_in_line, spaced_sizes_one_to_one, spaced_sizes_in_line}
 use Rattle.fin_parse.specs.Names.{IsName, continues_name}
 use Rattle.fin_parse.specs.FirstForm.{declaration, loop_of}
-use Rattle.fin_parse.specs.Lines.{Demand, none, new_name, size, words, Holds}
-use Rattle.fin_parse.specs.Parts.{one_line, known_line, name_line, loop_line, extent_line, values_line, shape_of, val_of}
-use Rattle.fin_parse.proofs.Splits.{cut_once, not_cut}
+use Rattle.fin_parse.specs.Lines.{none, new_name, size, words, Holds}
+use Rattle.fin_parse.specs.Parts.{known_line, name_line, loop_line, extent_line, values_line, shape_of, val_of}
+use Rattle.fin_parse.proofs.Splits.{cut_once}
 use Rattle.fin_parse.proofs.Chains.{IsExact, one_line_exact}
 
 -- no newline stands in it

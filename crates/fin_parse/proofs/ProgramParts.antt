@@ -1,15 +1,12 @@
 -- The lines of the program, one after another.
 use Rattle.std.proofs.Common.{◌≡◌, ◌≢◌, ℕ, List, [], ◌∷◌, ◌++◌, codes, refl, ap, lit<}
 use Rattle.std.specs.Prelude.{All}
-use Rattle.std.specs.List.{concat}
-use Rattle.std.proofs.lemmas.List.Elements.{All-append, All-head}
-use Rattle.fin_parse.specs.declared.first_form.Program.{Program}
+use Rattle.std.proofs.lemmas.List.Elements.{All-append}
 use Rattle.fin_parse.specs.declared.lines.FormFail.{FormFail}
 use Rattle.fin_parse.specs.declared.lines.FormFail.TheVariants.{Departs, Memory}
 use Rattle.fin_parse.specs.declared.lines.Lines.{Lines}
-use Rattle.fin_parse.specs.Names.{IsName}
 use Rattle.fin_parse.specs.Lines.{none, Holds}
-use Rattle.fin_parse.specs.Parts.{Layout, known_line, name_line, loop_line, program, HasRead, DepartsFrom, Fails}
+use Rattle.fin_parse.specs.Parts.{Layout, known_line, name_line, loop_line, program, HasRead, Fails}
 use Rattle.fin_parse.proofs.Chains.{IsExact, then, then_exact, read_then, fails_first, fails_later, one_line_counted, All-append_left}
 use Rattle.fin_parse.proofs.LineKinds.{InLine, plain, name_in_line, name_exact, known_exact, loop_exact}
 

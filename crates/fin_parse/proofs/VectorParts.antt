@@ -1,13 +1,12 @@
 -- The lines of a vector's text, one after another.
-use Rattle.std.proofs.Common.{◌≡◌, ◌≢◌, ℕ, List, [], ◌∷◌, ◌++◌, codes, refl, ap, ◌∙◌}
-use Rattle.std.specs.Prelude.{ℤ, All}
+use Rattle.std.proofs.Common.{◌≡◌, ◌≢◌, ℕ, List, [], ◌++◌, codes, refl, ap, ◌∙◌}
+use Rattle.std.specs.Prelude.{ℤ}
 use Rattle.std.proofs.lemmas.List.{append-nil}
 use Rattle.std.proofs.lemmas.List.Elements.{All-append}
 use Rattle.fin_parse.specs.declared.lines.FormFail.{FormFail}
 use Rattle.fin_parse.specs.declared.lines.FormFail.TheVariants.{Departs, Memory}
 use Rattle.fin_parse.specs.declared.lines.Lines.{Lines}
-use Rattle.fin_parse.specs.Lines.{Holds}
-use Rattle.fin_parse.specs.Parts.{Layout, known_line, extent_line, values_line, vector, HasRead, DepartsFrom, Fails}
+use Rattle.fin_parse.specs.Parts.{Layout, known_line, extent_line, values_line, vector, HasRead, Fails}
 use Rattle.fin_parse.proofs.Chains.{IsExact, then, then_exact, read_then, fails_first, fails_later}
 use Rattle.fin_parse.proofs.LineKinds.{InLine, plain, known_exact, extent_exact, values_exact}
 

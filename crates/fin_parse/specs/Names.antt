@@ -1,5 +1,5 @@
 -- The names of tensors and variables.
-use Rattle.std.specs.Prelude.{◌≡◌, ◌≤◌, ℕ, Bool, ◌==◌, ◌||◌, IsTrue, List, [], ◌∷◌, length, slice_index, Contains, codes}
+use Rattle.std.specs.Prelude.{◌≤◌, ℕ, Bool, ◌==◌, ◌||◌, IsTrue, List, [], ◌∷◌, length, slice_index, Contains, codes}
 use Rattle.std.specs.List.{AllPass}
 use Rattle.std.specs.Char.{is_ascii_alphabetic, is_ascii_alphanumeric}
 

@@ -10,3 +10,6 @@ mod names;
 pub use first_form::{FirstForm, Operand, read_first_form};
 pub use laws::{departs_once, is_form_by_lines, is_one_form_at_most, jobs_keep, keeps_fewer};
 pub use lines::FormFail;
+
+#[cfg(test)]
+mod tests;

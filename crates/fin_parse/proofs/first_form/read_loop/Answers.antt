@@ -1,4 +1,4 @@
-use Rattle.std.proofs.Common.{List, [], ◌∷◌, Bor, map, rules, sym, subst}
+use Rattle.std.proofs.Common.{List, [], ◌∷◌, Bor, sym, subst}
 use Rattle.std.specs.Prelude.{ℕ}
 use Rattle.std.proofs.lemmas.Result.{err_from_is_err_and}
 use Rattle.fin_parse.specs.FirstForm.{loop_of}

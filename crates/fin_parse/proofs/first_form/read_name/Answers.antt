@@ -1,11 +1,9 @@
-use Rattle.std.proofs.Common.{List, [], Bor, map, rules, sym, subst}
-use Rattle.std.specs.Prelude.{ℕ}
-use Rattle.std.proofs.lemmas.Result.{err_from_is_err_and}
+use Rattle.std.proofs.Common.{[], map, sym, subst}
 use Rattle.fin_parse.specs.FirstForm.{declaration}
 use Rattle.fin_parse.specs.Lines.{new_name}
 use Rattle.fin_parse.specs.Parts.{name_line, HasRead}
 use Rattle.fin_parse.proofs.LineKinds.{declaration_in_line}
-use Rattle.fin_parse.proofs.OneLine.{is_missing, is_none, is_read}
+use Rattle.fin_parse.proofs.OneLine.{is_none, is_read}
 use Rattle.fin_parse.proofs.first_form.read_name.Goals as goal
 
 pub returns-in_ok-name_from-in-Some : goal.returns-in_ok-name_from-in-Some

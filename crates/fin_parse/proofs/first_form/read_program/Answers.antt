@@ -1,9 +1,8 @@
-use Rattle.std.proofs.Common.{ℕ, List, [], ◌∷◌, ◌++◌, ◌≡◌, ◌≢◌, subst, sym, codes}
+use Rattle.std.proofs.Common.{[], ◌∷◌, ◌≢◌, subst, sym, codes}
 use Rattle.std.specs.Prelude.{All}
 use Rattle.std.proofs.lemmas.Result.{err_from_is_err_and}
-use Rattle.fin_parse.specs.declared.lines.Lines.{Lines}
 use Rattle.fin_parse.specs.Parts.{known_line, HasRead, Fails}
-use Rattle.fin_parse.proofs.ProgramParts.{start_line, start_in_line, start_pieces, read_in_line, fails_by_left, at_right, at_product, at_start, at_index, at_mark, right_read, product_read, start_read, index_read, program_read}
+use Rattle.fin_parse.proofs.ProgramParts.{start_in_line, start_pieces, read_in_line, fails_by_left, at_right, at_product, at_start, at_index, at_mark, right_read, product_read, start_read, index_read, program_read}
 use Rattle.fin_parse.proofs.first_form.read_program.Goals as goal
 
 pub returns-in_err-left : goal.returns-in_err-left

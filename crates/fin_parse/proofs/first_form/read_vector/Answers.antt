@@ -1,8 +1,7 @@
-use Rattle.std.proofs.Common.{ℕ, List, [], ◌∷◌, ◌++◌, ◌≡◌, subst, codes}
+use Rattle.std.proofs.Common.{subst}
 use Rattle.std.proofs.lemmas.Result.{err_from_is_err_and}
-use Rattle.fin_parse.specs.declared.lines.Lines.{Lines}
 use Rattle.fin_parse.specs.Parts.{known_line, HasRead, Fails}
-use Rattle.fin_parse.proofs.VectorParts.{tensor_line, tensor_pieces, fails_by_tensor, at_format, at_fill, at_extent, at_values, at_end, format_read, fill_read, extent_read, values_read, vector_read}
+use Rattle.fin_parse.proofs.VectorParts.{tensor_pieces, fails_by_tensor, at_format, at_fill, at_extent, at_values, at_end, format_read, fill_read, extent_read, values_read, vector_read}
 use Rattle.fin_parse.proofs.first_form.read_vector.Goals as goal
 
 pub returns-in_err-known : goal.returns-in_err-known

@@ -1,4 +1,3 @@
-use Rattle.std.proofs.Common.{◌∙◌, sym}
 use Rattle.fin_parse.proofs.Words.{not_found}
 use Rattle.fin_parse.proofs.names.is_new_name.Goals as goal
 

@@ -1,4 +1,4 @@
-use Rattle.std.proofs.Common.{◌∙◌, sym, map}
+use Rattle.std.proofs.Common.{map}
 use Rattle.std.specs.List.{concat}
 use Rattle.fin_parse.specs.Lines.{none}
 use Rattle.fin_parse.proofs.OneLine.{is_none}
