@@ -3,4 +3,5 @@ pub mod Endings
 pub mod Jobs
 pub mod OneDue
 pub mod Promised
+pub mod Serving
 pub mod Turns

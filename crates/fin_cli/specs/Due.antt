@@ -1,13 +1,16 @@
 -- What is due: a status, a text on the output, and a line on the error output, for the words and the bytes of the job.
-use Rattle.std.specs.Prelude.{◌≡◌, ◌≢◌, ℕ, ◌<◌, ◌≤◌, Bool, true, false, List, [], ◌∷◌, ◌++◌, length, codes}
+use Rattle.std.specs.Prelude.{◌≡◌, ◌≢◌, ℕ, ◌<◌, ◌≤◌, Bool, true, false, List, [], ◌∷◌, ◌++◌, length, Option, Some, None, codes}
 use Rattle.std.specs.Fmt.{decimal}
-use Rattle.std.specs.Str.{bytes_eq}
 use Rattle.fin_base.specs.declared.refusal.Refusal.{Refusal}
 use Rattle.fin_base.specs.declared.refusal.Rule.{Rule}
 use Rattle.fin_base.specs.declared.refusal.Rule.TheVariants.{J1, J2, S1, S2, S3, N1, N2, N3, F1, F2, X1, X2, X3, X4, X5, X6, L1, L2, L3, L4, L5, L6, L7, M1, M2, M3, M4, M5, B1, B2, B3, U1, U2, C1, C2, C3, C4, C5, W1}
 use Rattle.fin_ports.specs.Bytes.{most}
 use Rattle.fin_parse.specs.declared.first_form.FirstForm.{FirstForm}
-use Rattle.fin_parse.specs.FirstForm.{Departs, IsJob}
+use Rattle.fin_parse.specs.FirstForm.{IsJob}
+use Rattle.fin_words.specs.declared.mode.Asked.{Asked}
+use Rattle.fin_words.specs.declared.mode.Mode.{Mode}
+use Rattle.fin_words.specs.declared.mode.Mode.TheVariants.{Run, Check, Plain, Gen}
+use Rattle.fin_engine.specs.Verdict.{Accepts, Breaks}
 use Rattle.fin_text.specs.Text.{text_of_lines, vector_lines}
 use Rattle.fin_cli.specs.Dense.{canonical_values, evaluated, vector}
 
@@ -93,26 +96,40 @@ unfoldable pub output_text : FirstForm → List ℕ
 output_text form = text_of_lines (vector_lines form.product form.left.extent (canonical_values form.left.extent
     (evaluated form.left.extent (vector form.left.extent form.left.values) (vector form.left.extent form.right.values))))
 
--- what is due for the bytes of a job
-pub data IsDueRun (job : List ℕ) : Due → Type 0 where
-  too_long : most < length job → IsDueRun job (refused J1 0)
-  departs : (n : ℕ) → length job ≤ most → Departs job n → IsDueRun job (refused S2 n)
-  differs : (form : FirstForm) → length job ≤ most → IsJob job form → form.left.extent ≢ form.right.extent → IsDueRun job (refused M1 5)
-  runs : (form : FirstForm) → length job ≤ most → IsJob job form → form.left.extent ≡ form.right.extent → IsDueRun job (done (output_text form))
+-- what is due for a job that breaks none of the rules so far, in a run: it has to be of the first form
+pub data IsDueForm (job : List ℕ) : Due → Type 0 where
+  outside : ((form : FirstForm) → ¬ (IsJob job form)) → IsDueForm job (refused S2 0)
+  differs : (form : FirstForm) → IsJob job form → form.left.extent ≢ form.right.extent → IsDueForm job (refused M1 5)
+  runs : (form : FirstForm) → IsJob job form → form.left.extent ≡ form.right.extent → IsDueForm job (done (output_text form))
 
--- the words are two, and the second is `run`
-abbrev pub asks_run : List (List ℕ) → Bool
-asks_run (name ∷ mode ∷ []) = bytes_eq mode (codes "run")
-asks_run words = false
+-- what is due for a job that is read: its first breach, or else what is due then
+pub data IsDueRead (job : List ℕ) (Next : Due → Type 0) : Due → Type 0 where
+  too_long : most < length job → IsDueRead job Next (refused J1 0)
+  breaks : (rule : Rule) (line : ℕ) → length job ≤ most → Breaks job rule line → IsDueRead job Next (refused rule line)
+  passes : (due : Due) → length job ≤ most → Accepts job → Next due → IsDueRead job Next due
 
--- a job is read where the words ask for a run
-abbrev pub reads : List (List ℕ) → Bool
-reads words = asks_run words
+-- what is due then, by the mode
+abbrev pub IsDueThen : Mode → List ℕ → Due → Type 0
+IsDueThen Run job due = IsDueForm job due
+IsDueThen Check job due = due ≡ done (line (codes "ok"))
+IsDueThen Plain job due = due ≡ refused S2 0
+IsDueThen Gen job due = due ≡ refused S2 0
 
-abbrev pub IsDueAsked : Bool → List ℕ → Due → Type 0
-IsDueAsked true job due = IsDueRun job due
-IsDueAsked false job due = due ≡ unread
+-- a job is read, but for `gen`
+abbrev pub reads_job : Mode → Bool
+reads_job Gen = false
+reads_job mode = true
 
--- what is due for these words, with these bytes on the source
-abbrev pub IsDue : List (List ℕ) → List ℕ → Due → Type 0
-IsDue words job due = IsDueAsked (asks_run words) job due
+-- what is due in a mode; jobs aren't generated yet
+abbrev pub IsDueMode : Mode → List ℕ → Due → Type 0
+IsDueMode Gen job due = due ≡ refused S2 0
+IsDueMode mode job due = IsDueRead job (IsDueThen mode job) due
+
+-- what is due for what the words ask, with these bytes on the source; words without a reading have the usage line
+abbrev pub IsDue : Option Asked → List ℕ → Due → Type 0
+IsDue None job due = due ≡ unread
+IsDue (Some asked) job due = IsDueMode asked.mode job due
+
+abbrev pub reads : Option Asked → Bool
+reads None = false
+reads (Some asked) = reads_job asked.mode

@@ -4,6 +4,7 @@ use Rattle.std.specs.declared.option.Option.{Option}
 use Rattle.std.specs.Io.KnownBytes.{Appends, Consumes, IsAtEnd, Keeps}
 use Rattle.fin_ports.specs.Causes.{Rose}
 use Rattle.fin_ports.specs.Bytes.{most}
+use Rattle.fin_words.specs.declared.mode.Asked.{Asked}
 use Rattle.fin_cli.specs.Due.{Due, IsDue, out_of_memory, read_fault, reads, write_fault}
 
 -- a port before and after a call: its bytes, where it tells them, and its count of faults
@@ -73,7 +74,7 @@ Tells err line status result = ((result ≡ status) × Took err line) ⊎ ((resu
 abbrev pub Tries : Across → List ℕ → Type 0
 Tries err line = Took err line ⊎ (Failed err × TookPart err line)
 
--- the whole of a call with these words: some bytes of the job were read so, and it ends by what is due for them
-abbrev pub Serves : List (List ℕ) → Across → Across → Across → ℕ → Type 0
-Serves words source out err status =
-    (job : List ℕ) × Reads source (reads words) job (status ≤ 2) × Ends source out err (IsDue words job) status
+-- the whole of a call for what the words ask: some bytes of the job were read so, and it ends by what is due for them
+abbrev pub Serves : Option Asked → Across → Across → Across → ℕ → Type 0
+Serves asked source out err status =
+    (job : List ℕ) × Reads source (reads asked) job (status ≤ 2) × Ends source out err (IsDue asked job) status

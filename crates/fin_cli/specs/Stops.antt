@@ -1,5 +1,7 @@
 -- How a mode ends, by what is due and what its ports took.
 use Rattle.std.specs.Prelude.{◌≡◌, ◌⊎◌, [], Result, Ok, Err, string_bytes}
+use Rattle.fin_base.specs.declared.refusal.Fail.{Fail}
+use Rattle.fin_base.specs.declared.refusal.Fail.TheVariants as fail
 use Rattle.fin_base.specs.declared.refusal.Refusal.{Refusal}
 use Rattle.fin_cli.specs.Due.{Due, refusal_text}
 use Rattle.fin_cli.specs.Ends.{Across, Failed, ForDue, Took, TookPart}
@@ -19,3 +21,8 @@ Comes source out Is (Err Memory) = Took out [] ⊎ ForDue Is (λ due. TookPart o
 abbrev pub Refuses : Refusal → Result Answer Stop → Type 0
 Refuses refusal (Ok answer) = (answer.status ≡ 1) × (string_bytes answer.line ≡ refusal_text refusal)
 Refuses refusal (Err stop) = stop ≡ Memory
+
+-- the answer to a job without a result
+abbrev pub Fails : Fail → Result Answer Stop → Type 0
+Fails (fail.Refused refusal) result = Refuses refusal result
+Fails (fail.Memory e) result = result ≡ Err Memory

@@ -8,8 +8,8 @@
 
 mod evaluate;
 mod line;
+mod modes;
 mod outcome;
-mod run;
 mod top;
 
 pub use top::{finch, finch_one};

@@ -1,5 +1,6 @@
-use crate::finch_one;
+use crate::{finch, finch_one};
 use fin_ports::{MemSink, MemSource};
+use fin_words::asks_workers;
 use std::alloc::{AllocError, Global};
 use std::process::Abort;
 use std::test::Fail;
@@ -25,7 +26,7 @@ const WRAPS: &[u8] =
 const WRAPS_TEXT: &[u8] = b"tensor y\nformat dense element\nfill 0\nshape 1\nval -2\nend\n";
 
 const TWO_BLANKS: &[u8] =
-    b"in a dense element\nin b dense element\nout y dense element\ny .= 0\nfor  i { y[i] += a[i] * b[i] }\n";
+    b"in a dense element\nin b dense element\nout y dense element\ny .= 0\nfor  i { y[i] += a[i] * b[i] }\n%%\ntensor a\nformat dense element\nfill 0\nshape 3\nval 1 2 3\nend\ntensor b\nformat dense element\nfill 0\nshape 3\nval 4 5 6\nend\n";
 
 const USAGE: &[u8] =
     b"usage: finch run,check,plain,gen [--workers N] [--budget N] [--stats] [--seed N] [--size N]\n";
@@ -62,7 +63,7 @@ const REFUSED: Case = Case {
     ..RUN
 };
 
-const CASES: [Case; 15] = [
+const CASES: [Case; 20] = [
     RUN,
     Case { most: 1, ..RUN },
     Case {
@@ -86,12 +87,34 @@ const CASES: [Case; 15] = [
     },
     Case {
         job: TWO_BLANKS,
-        err: b"refused S2 line 5\n",
+        err: b"refused S2 line 0\n",
         ..REFUSED
     },
     Case {
         job: b"",
-        err: b"refused S2 line 1\n",
+        err: b"refused J2 line 0\n",
+        ..REFUSED
+    },
+    Case {
+        words: &["finch", "check"],
+        job: b"in a dense element\n  @\n%%\n",
+        err: b"refused S1 line 2\n",
+        ..REFUSED
+    },
+    Case {
+        words: &["finch", "check", "--workers", "2"],
+        out: b"ok\n",
+        ..RUN
+    },
+    Case {
+        words: &["finch", "plain"],
+        err: b"refused S2 line 0\n",
+        ..REFUSED
+    },
+    Case {
+        words: &["finch", "gen", "--size", "3"],
+        source_fails: &[0],
+        err: b"refused S2 line 0\n",
         ..REFUSED
     },
     Case {
@@ -139,7 +162,15 @@ const CASES: [Case; 15] = [
         ..RUN
     },
     Case {
-        words: &["finch", "run", "run"],
+        words: &["finch", "fly"],
+        source_fails: &[0],
+        status: 2,
+        out: b"",
+        err: USAGE,
+        ..RUN
+    },
+    Case {
+        words: &["finch", "run", "--workers", "65"],
         source_fails: &[0],
         status: 2,
         out: b"",
@@ -163,6 +194,7 @@ fn ends_as(rt: &impl Abort, alloc: Global, case: &Case) -> Result<(), Fail> {
     let mut source = MemSource::new(case.job.to_vec(alloc)?, case.most, source_fails);
     let mut out = MemSink::new(alloc, ROOM, case.most, case.out_fails.to_vec(alloc)?)?;
     let mut err = MemSink::new(alloc, ROOM, case.most, case.err_fails.to_vec(alloc)?)?;
+    assert!(rt; !asks_workers(alloc, &words)?);
     let status = finch_one(alloc, &words, &mut source, &mut out, &mut err);
     assert_eq!(rt; status, case.status);
     assert_eq!(rt; out.taken(), case.out);
@@ -193,6 +225,9 @@ fn a_refused_allocation_is_told(rt: HostRuntime) -> Result<(), Fail> {
         return Ok(());
     };
     let mut source = MemSource::new(job, 7, Vec::new(alloc));
+    let Ok(false) = asks_workers(alloc, &words) else {
+        return Ok(());
+    };
     let status = finch_one(alloc, &words, &mut source, &mut out, &mut err);
     if status == 5 {
         assert_eq!(rt; err.taken(), b"out of memory\n".as_slice());
@@ -200,5 +235,19 @@ fn a_refused_allocation_is_told(rt: HostRuntime) -> Result<(), Fail> {
         assert_eq!(rt; status, 0);
         assert_eq!(rt; out.taken(), PRODUCT_TEXT);
     }
+    Ok(())
+}
+
+// For now a run by several workers is done by one.
+#[test]
+fn several_workers_are_served(rt: HostRuntime) -> Result<(), Fail> {
+    let alloc = rt.alloc();
+    let words = words(alloc, &["finch", "run", "--workers", "2"])?;
+    let mut source = MemSource::new(PRODUCT.to_vec(alloc)?, 7, Vec::new(alloc));
+    let mut out = MemSink::new(alloc, ROOM, 7, Vec::new(alloc))?;
+    let mut err = MemSink::new(alloc, ROOM, 7, Vec::new(alloc))?;
+    let status = finch(&rt, alloc, &words, &mut source, &mut out, &mut err);
+    assert_eq!(rt; status, 0);
+    assert_eq!(rt; out.taken(), PRODUCT_TEXT);
     Ok(())
 }

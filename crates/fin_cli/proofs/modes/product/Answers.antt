@@ -1,7 +1,7 @@
 use Rattle.std.proofs.Common.{◌∙◌, ap, length, refl}
 use Rattle.std.proofs.lemmas.List.FromFn.{length-map-range_with_len}
 use Rattle.fin_cli.proofs.Comings.{text_is, values_is}
-use Rattle.fin_cli.proofs.run.product.Goals as goal
+use Rattle.fin_cli.proofs.modes.product.Goals as goal
 
 pub invariant_of-result : goal.invariant_of-result
 invariant_of-result c = record {
