@@ -3,8 +3,9 @@ use Rattle.std.proofs.Common.{◌≡◌, ℕ, List, ℤ, subst}
 use Rattle.fin_tensor.specs.declared.format.Format.{Format}
 use Rattle.fin_tensor.specs.declared.part.Part.{Part}
 use Rattle.fin_tensor.specs.declared.storage.Storage.{Storage}
-use Rattle.fin_tensor.specs.Levels.{IsStored, IsStored-prop}
-use Rattle.fin_tensor.specs.Placement.{IsPlaced, IsPlaced-prop, IsBare, IsBare-prop}
+use Rattle.fin_tensor.specs.Levels.{IsStored}
+use Rattle.fin_tensor.specs.Placement.{IsPlaced, IsBare}
+use Rattle.fin_tensor.specs.OneProof.{IsPlaced-prop, IsBare-prop, IsStored-prop}
 
 module _ (s : Storage) where
   abbrev storage : (fm : Format) (ns : List ℕ) (ps : List Part) (vs : List ℤ) → IsPlaced fm.levels fm.wrap → IsBare fm.wrap → IsStored 1 fm.levels ns ps vs → Storage

@@ -31,11 +31,12 @@ has_value fill ns f i = not (is_fill_at fill (slice_at f i) (box ns))
 abbrev pub ends_run : ℕ → Slice → ℕ → Bool
 ends_run n f i = nat_eq (i + 1) n || not (int_eq (f (i ∷ [])) (f ((i + 1) ∷ [])))
 
--- the numbers from the first to the last of a list that rises
+-- the last number of a list, here by its first number and the others
 abbrev pub last_of : ℕ → List ℕ → ℕ
 last_of x [] = x
 last_of x (y ∷ ys) = last_of y ys
 
+-- the numbers from the first to the last of a list that rises
 abbrev pub span_of : List ℕ → List ℕ
 span_of [] = []
 span_of (x ∷ xs) = range_with_len x (last_of x xs + 1 - x)
@@ -65,6 +66,7 @@ part_of level.Dict K fs = part.Keys (starts K 0 fs) (flat_map K fs)
 part_of level.Runs K fs = part.Runs (starts K 0 fs) (map (λ i. i + 1) (flat_map K fs))
 part_of level.Band K fs = part.Band (starts K 0 fs) (map (λ f. slice_index (K f) 0) fs)
 
+-- the parts, and the values, of the canonical storage of these slices
 abbrev pub canon_parts : List Level → ℤ → List ℕ → List Slice → List Part
 canon_parts [] fill ns fs = []
 canon_parts (l ∷ ls) fill [] fs = []
@@ -100,7 +102,7 @@ HasForm (l ∷ ls) fill (n ∷ ns) (p ∷ ps) val fs =
     ((pos : ℕ) → pos < length fs → told_in n p pos ≡ kept l fill n ns (slice_index_or fs pos (λ _. fill))) × EmptyAtZero (length fs) p × HasForm ls fill ns ps val (next (kept l fill n ns) fs)
 HasForm (l ∷ ls) fill ns ps val fs = ⊥
 
--- the storage is the canonical one of the function in the format
+-- the storage is the canonical one of the function in the format: its one slice at the start is the whole function
 pub record IsCanon (format : Format) (f : TensorFunction) (s : Storage) : Type 0 where
   pub fill : format.fill ≡ f.fill
   pub format_is : s.format ≡ format

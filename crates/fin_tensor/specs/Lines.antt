@@ -1,11 +1,10 @@
 -- Validity, line by line.
-use Rattle.std.specs.Prelude.{◌≡◌, ◌↔◌, ℕ, ◌^◌, ◌<◌, ◌≤◌, List, length, slice_index, slice_index_or, ℤ, IsTrue, Bool}
-use Rattle.std.proofs.Props.{props}
+use Rattle.std.specs.Prelude.{◌≡◌, ◌↔◌, ℕ, ◌^◌, ◌<◌, ◌≤◌, List, length, slice_index, slice_index_or, ℤ}
 use Rattle.fin_tensor.specs.declared.format.Level.{Level}
 use Rattle.fin_tensor.specs.declared.format.Level.TheVariants as level
 use Rattle.fin_tensor.specs.declared.part.Part.{Part}
 use Rattle.fin_tensor.specs.declared.part.Part.TheVariants as part
-use Rattle.fin_tensor.specs.Levels.{AreSmall, IsLevel, IsLevel-prop, IsStored, fibres}
+use Rattle.fin_tensor.specs.Levels.{AreSmall, IsLevel, IsStored, fibres}
 
 -- the line `shape`
 pub record IsShape (levels : List Level) (shape : List ℕ) : Type 0 where
@@ -39,13 +38,3 @@ pub record AreLines (levels : List Level) (shape : List ℕ) (parts : List Part)
 -- a storage is valid exactly where each of its lines is
 abbrev pub ValidByLines : Type 0
 ValidByLines = (levels : List Level) (shape : List ℕ) (parts : List Part) (val : List ℤ) → IsStored 1 levels shape parts val ↔ AreLines levels shape parts val
-
--- each of these facts has one proof
-pub IsShape-prop : (levels : List Level) (shape : List ℕ) → IsProp (IsShape levels shape)
-IsShape-prop levels shape = hlevel props
-
-pub AreLevels-prop : (levels : List Level) (shape : List ℕ) (parts : List Part) → IsProp (AreLevels levels shape parts)
-AreLevels-prop levels shape parts = hlevel (props, IsLevel-prop)
-
-pub TellsFew-prop : (few : Bool) (shape : List ℕ) (parts : List Part) → IsProp (IsTrue few ↔ AreFew shape parts)
-TellsFew-prop few shape parts = hlevel props

@@ -1,7 +1,8 @@
 //! A storage whose lines come one by one.
 ghost use Rattle.std.specs.Prelude.{◌≡◌, ◌↔◌, ◌-◌, ◌^◌, min, IsTrue};
-ghost use Rattle.fin_tensor.specs.Placement.{IsPlaced, IsPlaced-prop, IsBare, IsBare-prop};
-ghost use Rattle.fin_tensor.specs.Lines.{IsShape, IsShape-prop, AreLevels, AreLevels-prop, AreFew, TellsFew-prop, due};
+ghost use Rattle.fin_tensor.specs.Placement.{IsPlaced, IsBare};
+ghost use Rattle.fin_tensor.specs.Lines.{IsShape, AreLevels, AreFew, due};
+ghost use Rattle.fin_tensor.specs.OneProof.{IsPlaced-prop, IsBare-prop, IsShape-prop, AreLevels-prop, TellsFew-prop};
 
 use crate::format::Format;
 use crate::lines;
