@@ -29,11 +29,14 @@ impl Duplicate for u8 {
 
 impl<T: Duplicate + Drop> Duplicate for Seq<T> {
     fn copy(&self, alloc: Global) -> Result<Seq<T>, AllocError> {
-        let mut copies = Seq::new(alloc);
-        for item in self.as_slice() {
-            let item = item.copy(alloc)?;
-            copies.push(item)?;
-        }
-        Ok(copies)
+        Seq::copy(self, alloc)
+    }
+}
+
+impl<A: Duplicate + Drop, B: Duplicate + Drop> Duplicate for (A, B) {
+    fn copy(&self, alloc: Global) -> Result<(A, B), AllocError> {
+        let first = self.0.copy(alloc)?;
+        let second = self.1.copy(alloc)?;
+        Ok((first, second))
     }
 }

@@ -50,13 +50,22 @@ impl Duplicate for Level {
     }
 }
 
-impl Duplicate for Format {
-    fn copy(&self, alloc: Global) -> Result<Format, AllocError> {
+impl Format {
+    /// An equal format.
+    pub fn copy(&self, alloc: Global) -> Result<Format, AllocError>
+        ensures { IfOk result (λ c. c ≡ self.now) }
+    {
         let levels = self.levels.copy(alloc)?;
         Ok(Format {
             levels,
             wrap: self.wrap,
             fill: self.fill,
         })
+    }
+}
+
+impl Duplicate for Format {
+    fn copy(&self, alloc: Global) -> Result<Format, AllocError> {
+        Format::copy(self, alloc)
     }
 }

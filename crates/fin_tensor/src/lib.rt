@@ -1,14 +1,35 @@
-//! Tensors: the small list types of all plain data, coordinates, and what a tensor is as a function.
+//! Tensors: what one is as a function, how it is stored, and the small list types of all plain data.
+//!
+//! A `Storage` is always valid, and its format is bare and keeps the placement. It stands for one tensor function, whose
+//! values `at` gives; `child`, `fibre` and `search` go down its levels. None of the four takes memory.
 #![tactic(auto)]
 
 mod coords;
+mod draft;
 mod duplicate;
 mod format;
 mod laws;
+mod lines;
+mod outputs;
+mod part;
+mod placement;
+mod places;
 mod seq;
+mod storage;
+#[cfg(test)]
+mod tests;
 
 pub use coords::Coords;
+pub use draft::Draft;
 pub use duplicate::Duplicate;
 pub use format::{Format, Level, Levels, Wrap};
-pub use laws::{agreeing_are_equal, gives_one_place, keeps_tensors};
+pub use laws::{
+    agreeing_are_equal, gives_one_place, keeps_tensors, tabulated_gives, valid_by_lines,
+};
+pub use lines::is_shape;
+pub use outputs::{Outputs, StoreFail};
+pub use part::Part;
+pub use placement::{has_small_dense_size, keeps_placement};
+pub use places::Fibre;
 pub use seq::{Name, Nums, Seq, Vals};
+pub use storage::Storage;

@@ -1,5 +1,6 @@
-ghost use Rattle.std.specs.Prelude.{◌≡◌, [], ◌∷◌, ◌++◌, ◌<◌, length, slice_get, slice_set, OnOk, OnErr, Some};
+ghost use Rattle.std.specs.Prelude.{◌≡◌, [], ◌∷◌, ◌++◌, ◌<◌, length, slice_get, slice_set, OnOk, OnErr, IfOk, Some};
 
+use crate::duplicate::Duplicate;
 use std::alloc::{AllocError, Global};
 use std::marker::Model;
 
@@ -30,6 +31,7 @@ impl<T> Model for Seq<T> {
 }
 
 impl<T> Seq<T> {
+    /// The empty list, which takes no memory and keeps the allocator.
     pub fn new(alloc: Global) -> Seq<T>
         ensures { result ≡ [] }
     {
@@ -38,12 +40,14 @@ impl<T> Seq<T> {
         }
     }
 
+    /// The number of items.
     pub fn len(&self) -> usize
         ensures { result ≡ length self.now }
     {
         self.items.len()
     }
 
+    /// The item k.
     pub fn get(&self, k: usize) -> &T
         requires { k < length self.now }
         ensures { slice_get self.now k ≡ Some result.now }
@@ -51,6 +55,7 @@ impl<T> Seq<T> {
         &self.items[k]
     }
 
+    /// The items.
     pub fn as_slice(&self) -> &[T]
         ensures { result.now ≡ self.now }
     {
@@ -59,6 +64,7 @@ impl<T> Seq<T> {
 }
 
 impl<T: Drop> Seq<T> {
+    /// Puts an item last. After want of memory the list is as before.
     pub fn push(&mut self, item: T) -> Result<(), AllocError>
         ensures ok { OnOk result (self.new ≡ self.old ++ item ∷ []) }
         ensures err { OnErr result (self.new ≡ self.old) }
@@ -67,10 +73,25 @@ impl<T: Drop> Seq<T> {
         Ok(())
     }
 
+    /// Replaces the item k.
     pub fn set(&mut self, k: usize, item: T)
         requires { k < length self.old }
         ensures { self.new ≡ slice_set self.old k item }
     {
         self.items[k] = item;
+    }
+}
+
+impl<T: Duplicate + Drop> Seq<T> {
+    /// An equal list.
+    pub fn copy(&self, alloc: Global) -> Result<Seq<T>, AllocError>
+        ensures { IfOk result (λ c. c ≡ self.now) }
+    {
+        let mut copies = Seq::new(alloc);
+        for item in self.as_slice() {
+            let item = item.copy(alloc)?;
+            copies.push(item)?;
+        }
+        Ok(copies)
     }
 }

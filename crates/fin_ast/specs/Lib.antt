@@ -1,0 +1,6 @@
+pub mod Kinds
+pub mod Placements
+pub mod Headers
+pub mod Depth
+pub mod Bindings
+pub mod Scope

@@ -1,0 +1,18 @@
+//! Syntax trees of tensor programs, whose names are numbers: a tensor by its header, a variable in order of binding.
+//!
+//! A `Program` keeps what the reader tests: names are bound, accesses have as many indices as the format has levels,
+//! formats are well placed, a declaration gives the fill, and nesting stays within its limits.
+#![tactic(auto)]
+
+mod checked;
+mod copy;
+mod header;
+mod program;
+#[cfg(test)]
+mod tests;
+mod tree;
+
+pub use checked::{Checked, Dims, LoopWays, Ways};
+pub use header::{Header, Kind};
+pub use program::Program;
+pub use tree::{Expr, Index, Stmt};

@@ -1,0 +1,9 @@
+pub mod Canonical
+pub mod Fewer
+pub mod Form
+pub mod Kept
+pub mod Placed
+pub mod Positions
+pub mod Standing
+pub mod Unique
+pub mod Valid

@@ -1,0 +1,9 @@
+//! Canonical storages: what is true of them.
+//!
+//! The canonical storage of a tensor function stands for it, is valid where its size allows, and is the only storage of
+//! its form. That of the function of a storage is valid in the storage's format.
+#![tactic(auto)]
+
+mod laws;
+
+pub use laws::{canonical_is_unique, canonical_is_valid, canonical_stands, canonical_stays_valid};

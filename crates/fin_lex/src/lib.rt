@@ -1,0 +1,14 @@
+//! The tokens of a program's text, each the longest that fits, with its bytes and its line; or the line of the first
+//! bytes that begin no token.
+#![tactic(auto)]
+
+mod piece;
+mod tables;
+#[cfg(test)]
+mod tests;
+mod token;
+mod tokens;
+
+pub use tables::{RESERVED, SYMBOLS, WORD_SYMBOLS};
+pub use token::{Token, TokenKind};
+pub use tokens::lex;
