@@ -46,17 +46,17 @@ right_in_line p h = name_in_line p.right (h 1 none (lit< tt)).0
 vector_counted : (name : List ℕ) → IsCounted (vector name) 6
 vector_counted name = record { lines = λ _. refl; demands = λ _. refl }
 
-pub left_exact : IsExact to_left 12
-left_exact = then_exact program (λ p. vector p.left) 6 6 program_exact (λ p. vector_counted p.left) (λ p h. vector_exact p.left (left_in_line p h))
+pub to_left_exact : IsExact to_left 12
+to_left_exact = then_exact program (λ p. vector p.left) 6 6 program_exact (λ p. vector_counted p.left) (λ p h. vector_exact p.left (left_in_line p h))
 
-pub right_exact : IsExact to_right 18
-right_exact =
-    then_exact to_left (λ v. vector v.0.right) 12 6 left_exact (λ v. vector_counted v.0.right)
+pub to_right_exact : IsExact to_right 18
+to_right_exact =
+    then_exact to_left (λ v. vector v.0.right) 12 6 to_left_exact (λ v. vector_counted v.0.right)
     (λ v h. vector_exact v.0.right (right_in_line v.0 (All-append_left (program.demands v.0) ((vector v.0.left).demands v.1) h)))
 
 -- The lines of one form alone begin a text, and tell what is behind them.
 pub form_told : (f g : FirstForm) (r s : List ℕ) → All Holds (demands_of f) → All Holds (demands_of g) → text_of_lines (lines_of f) ++ r ≡ text_of_lines (lines_of g) ++ s → (f ≡ g) × (r ≡ s)
-form_told f g r s p q e = let both = right_exact.only (parts_of f) (parts_of g) r s p q e in (ap form_of both.0, both.1)
+form_told f g r s p q e = let both = to_right_exact.only (parts_of f) (parts_of g) r s p q e in (ap form_of both.0, both.1)
 
 module _ (a : Lines) (job : List ℕ) (start : a.rest.now ≡ job) (none_taken : a.taken ≡ 0) where
   -- a job is departed from where its parts are
@@ -82,7 +82,7 @@ module _ (a : Lines) (job : List ℕ) (start : a.rest.now ≡ job) (none_taken :
   fails_by_right (fail.Departs n) h = departs n h
 
   pub fails_by_left : (e : FormFail) → Fails to_left 12 a e → ReadsForm job (Err e)
-  fails_by_left e h = fails_by_right e (fails_first to_left (λ v. vector v.0.right) 12 6 left_exact.counted (λ _. (0, [])) a e h)
+  fails_by_left e h = fails_by_right e (fails_first to_left (λ v. vector v.0.right) 12 6 to_left_exact.counted (λ _. (0, [])) a e h)
 
   pub fails_by_program : (e : FormFail) → Fails program 6 a e → ReadsForm job (Err e)
   fails_by_program e h = fails_by_left e (fails_first program (λ p. vector p.left) 6 6 program_exact.counted (λ _. (0, [])) a e h)
@@ -91,7 +91,7 @@ module _ (a : Lines) (job : List ℕ) (start : a.rest.now ≡ job) (none_taken :
   at_left b p h e k = fails_by_left e (fails_later program (λ p. vector p.left) 6 6 program_exact a b p h e k)
 
   pub at_right : (b c : Lines) (p : Program) (v : Vector) → HasRead program 6 a b p → HasRead (vector p.left) 6 b c v → (e : FormFail) → Fails (vector p.right) 6 c e → ReadsForm job (Err e)
-  at_right b c p v h k e l = fails_by_right e (fails_later to_left (λ v. vector v.0.right) 12 6 left_exact a c (p, v) (read_then program (λ p. vector p.left) 6 6 h k) e l)
+  at_right b c p v h k e l = fails_by_right e (fails_later to_left (λ v. vector v.0.right) 12 6 to_left_exact a c (p, v) (read_then program (λ p. vector p.left) 6 6 h k) e l)
 
   module _ (b c d : Lines) (p : Program) (v w : Vector) (h : HasRead program 6 a b p) (k : HasRead (vector p.left) 6 b c v) (l : HasRead (vector p.right) 6 c d w) where
     whole : HasRead to_right 18 a d ((p, v), w)

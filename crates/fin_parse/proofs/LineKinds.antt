@@ -63,9 +63,9 @@ loop_begins a b y i = refl
 pub loop_in_line : (a b y : List ℕ) → InLine a → InLine b → InLine y → (i : List ℕ) → Holds (new_name i (a ∷ b ∷ y ∷ [])) → InLine (loop_of a b y i)
 loop_in_line a b y p q r i h =
     let n = name_in_line i h.0 in
-    let open' = plain (codes "[") refl in
+    let bracket = plain (codes "[") refl in
     in_line (codes "for " ∷ i ∷ codes " { " ∷ y ∷ codes "[" ∷ i ∷ codes "] += " ∷ a ∷ codes "[" ∷ i ∷ codes "] * " ∷ b ∷ codes "[" ∷ i ∷ codes "] }" ∷ [])
-    (plain (codes "for ") refl, (n, (plain (codes " { ") refl, (r, (open', (n, (plain (codes "] += ") refl, (p, (open', (n, (plain (codes "] * ") refl, (q, (open', (n, (plain (codes "] }") refl, tt)))))))))))))))
+    (plain (codes "for ") refl, (n, (plain (codes " { ") refl, (r, (bracket, (n, (plain (codes "] += ") refl, (p, (bracket, (n, (plain (codes "] * ") refl, (q, (bracket, (n, (plain (codes "] }") refl, tt)))))))))))))))
 
 -- a text that is the loop over a name has that name before its second space
 pub loop_tells : (a b y i found after : List ℕ) → All (λ c. c ≢ 32) i → All (λ c. c ≢ 32) found → codes "for " ++ (found ++ 32 ∷ after) ≡ loop_of a b y i → found ≡ i

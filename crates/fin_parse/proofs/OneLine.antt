@@ -6,15 +6,9 @@ use Rattle.fin_parse.specs.declared.lines.FormFail.{FormFail}
 use Rattle.fin_parse.specs.declared.lines.FormFail.TheVariants.{Departs, Memory}
 use Rattle.fin_parse.specs.declared.lines.Lines.{Lines}
 use Rattle.fin_parse.specs.Lines.{Demand, Holds, Follows}
-use Rattle.fin_parse.specs.Parts.{one_line, HasRead, DepartsFrom, Fails, TakesLine}
+use Rattle.fin_parse.specs.Parts.{IsLine, one_line, HasRead, DepartsFrom, Fails, TakesLine}
 use Rattle.fin_parse.proofs.Splits.{cut_once, not_cut}
 use Rattle.fin_parse.proofs.Chains.{text_of_one}
-
--- The line that was taken, of the text before to the text after.
-pub record IsLine (old new : Lines) (line : List ℕ) : Type 0 where
-  pub split : old.rest.now ≡ line ++ 10 ∷ new.rest.now
-  pub whole : All (λ b. b ≢ 10) line
-  pub taken : new.taken ≡ old.taken + 1
 
 module _ {V : Type 0} (text : V → List ℕ) (demand : V → Demand) where
   -- the line is a value's

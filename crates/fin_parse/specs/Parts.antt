@@ -103,8 +103,14 @@ abbrev pub Reads : {V : Type 0} → Layout V → ℕ → Lines → Lines → Res
 Reads layout count old new (Ok value) = HasRead layout count old new value
 Reads layout count old new (Err why) = Fails layout count old why
 
--- what taking a line gives: the bytes up to the next newline, or there is none
+-- A line was taken: the bytes up to the next newline.
+pub record IsLine (old new : Lines) (line : List ℕ) : Type 0 where
+  pub split : old.rest.now ≡ line ++ 10 ∷ new.rest.now
+  pub whole : All (λ b. b ≢ 10) line
+  pub taken : new.taken ≡ old.taken + 1
+
+-- what taking a line gives, if there is one
 abbrev pub TakesLine : {V : Type 0} → (V → List ℕ) → Lines → Lines → Result V FormFail → Type 0
-TakesLine view old new (Ok line) = (old.rest.now ≡ view line ++ 10 ∷ new.rest.now) × All (λ b. b ≢ 10) (view line) × (new.taken ≡ old.taken + 1)
+TakesLine view old new (Ok line) = IsLine old new (view line)
 TakesLine view old new (Err (Departs n)) = (n ≡ old.taken + 1) × All (λ b. b ≢ 10) old.rest.now
 TakesLine view old new (Err (Memory e)) = Unit {0}

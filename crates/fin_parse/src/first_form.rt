@@ -14,16 +14,21 @@ use std::alloc::{AllocError, Global};
 #[derive(Debug, Drop)]
 pub struct Operand {
     pub name: Name,
+    /// How many values it has, at most 2^40.
     pub extent: u64,
+    /// Its values, in order.
     pub values: Vals,
 }
 
-/// A job whose loop adds to each value of `product` the one of `left` times the one of `right`.
+/// A job whose loop adds to each value of `product` the one of `left` times the one of `right`. The four names
+/// differ. The extents of `left` and `right` may differ too.
 #[derive(Debug, Drop)]
 pub struct FirstForm {
     pub left: Operand,
     pub right: Operand,
+    /// The vector that the loop makes, with fill 0.
     pub product: Name,
+    /// The variable of the loop.
     pub index: Name,
 }
 
@@ -36,7 +41,14 @@ struct Program {
     index: Name,
 }
 
-/// Reads a job of the first form. It is refused at the first line that departs from the form.
+/// Reads a job of the first form: exactly its 18 lines, each ended by a newline, with no other blank or comment.
+/// Each byte is read a few times at most, and each value once.
+///
+/// # Errors
+///
+/// `Departs` with the first line that departs from the form. A line that is missing or has no newline departs, a
+/// name that was given before departs in the later line, and so does line 19 where bytes are behind line 18.
+/// `Memory` where memory runs out.
 pub fn read_first_form(alloc: Global, text: &[u8]) -> Result<FirstForm, FormFail>
     ensures { ReadsForm text.now result }
 {

@@ -1,5 +1,5 @@
-//! Reads a job: the program's text, and behind the line `%%` the text of its tensors. What is read stands for
-//! exactly the bytes that were given, and a text that is no job is refused at the first line that departs.
+//! Reads a job of the first form, one loop over two dense vectors. A text is read where it is exactly the form's
+//! lines, and what is read is the only form that it is. Any other text is refused at the first line that departs.
 #![tactic(auto)]
 
 mod first_form;

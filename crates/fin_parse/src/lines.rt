@@ -5,14 +5,17 @@ ghost use Rattle.fin_parse.specs.Parts.{Reads, TakesLine, known_line};
 ghost use Rattle.fin_parse.specs.declared.lines.FormFail.TheVariants.{Memory as MemoryFailed};
 
 use std::alloc::AllocError;
+use thiserror::Error;
 
 /// Why a text isn't read as a job of the first form.
-#[derive(Debug, Drop)]
+#[derive(Debug, Drop, Error)]
 pub enum FormFail {
-    /// The line of this number, from 1 on, is the first that departs from the form. Behind the last line, it is
-    /// the one after that.
+    /// The line of this number, from 1 on, is the first that departs from the form. It is 19 where all lines are
+    /// kept and bytes are behind them.
+    #[error("departs from the form in line {0}")]
     Departs(u32),
     /// Memory ran out.
+    #[error("out of memory")]
     Memory(AllocError),
 }
 

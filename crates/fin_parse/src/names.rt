@@ -25,7 +25,7 @@ pub(crate) fn is_new_name(word: &[u8], earlier: &[&Name]) -> bool
 
 /// Tells whether a word is a name: a letter or `_`, then letters, digits or `_`, at most 32 bytes and not
 /// reserved.
-pub fn is_name(word: &[u8]) -> bool
+pub(crate) fn is_name(word: &[u8]) -> bool
     ensures { IsTrue result ↔ IsName word.now }
 {
     !word.is_empty()

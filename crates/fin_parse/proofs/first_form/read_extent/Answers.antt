@@ -13,5 +13,4 @@ returns-in_err-line c =
 
 pub returns-in-None : goal.returns-in-None
 returns-in-None c =
-    let line = c.in_ok-line.ensures in
-    is_none shape_of size c.args.lines.now c.next.new.self c.in_ok-line.line.now (record { split = line.0; whole = line.1; taken = line.2 }) 0 shape_in_line c.in-None.ensures
+    is_none shape_of size c.args.lines.now c.next.new.self c.in_ok-line.line.now c.in_ok-line.ensures 0 shape_in_line c.in-None.ensures

@@ -18,17 +18,15 @@ returns-in_err-line c =
 
 pub returns-in_ok-name_from-in-Some : goal.returns-in_ok-name_from-in-Some
 returns-in_ok-name_from-in-Some c =
-    let line = c.in_ok-line.ensures in
     let a = c.args.left.now in
     let b = c.args.right.now in
     let y = c.args.product.now in
     subst (HasRead (loop_line a b y) 1 c.args.lines.now c.next.new.self) (sym c.in_ok-name_from-in-Some.ensures)
-    (is_read (loop_of a b y) (λ i. new_name i (a ∷ b ∷ y ∷ [])) c.args.lines.now c.next.new.self c.in_ok-line.line.now (record { split = line.0; whole = line.1; taken = line.2 }) c.in-Some.index.now c.in-Some.ensures.1 c.in-Some.ensures.0)
+    (is_read (loop_of a b y) (λ i. new_name i (a ∷ b ∷ y ∷ [])) c.args.lines.now c.next.new.self c.in_ok-line.line.now c.in_ok-line.ensures c.in-Some.index.now c.in-Some.ensures.1 c.in-Some.ensures.0)
 
 pub returns-in-None : goal.returns-in-None
 returns-in-None c =
-    let line = c.in_ok-line.ensures in
     let a = c.args.left.now in
     let b = c.args.right.now in
     let y = c.args.product.now in
-    is_none (loop_of a b y) (λ i. new_name i (a ∷ b ∷ y ∷ [])) c.args.lines.now c.next.new.self c.in_ok-line.line.now (record { split = line.0; whole = line.1; taken = line.2 }) [] (loop_in_line a b y c.requires.left c.requires.right c.requires.product) c.in-None.ensures
+    is_none (loop_of a b y) (λ i. new_name i (a ∷ b ∷ y ∷ [])) c.args.lines.now c.next.new.self c.in_ok-line.line.now c.in_ok-line.ensures [] (loop_in_line a b y c.requires.left c.requires.right c.requires.product) c.in-None.ensures

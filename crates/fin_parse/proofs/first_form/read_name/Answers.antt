@@ -8,13 +8,11 @@ use Rattle.fin_parse.proofs.first_form.read_name.Goals as goal
 
 pub returns-in_ok-name_from-in-Some : goal.returns-in_ok-name_from-in-Some
 returns-in_ok-name_from-in-Some c =
-    let line = c.in_ok-line.ensures in
     let earlier = map (λ n. n.now) c.args.earlier.now in
     subst (HasRead (name_line c.args.keyword.now earlier) 1 c.args.lines.now c.next.new.self) (sym c.in_ok-name_from-in-Some.ensures)
-    (is_read (declaration c.args.keyword.now) (λ n. new_name n earlier) c.args.lines.now c.next.new.self c.in_ok-line.line.now (record { split = line.0; whole = line.1; taken = line.2 }) c.in-Some.name.now c.in-Some.ensures.1 c.in-Some.ensures.0)
+    (is_read (declaration c.args.keyword.now) (λ n. new_name n earlier) c.args.lines.now c.next.new.self c.in_ok-line.line.now c.in_ok-line.ensures c.in-Some.name.now c.in-Some.ensures.1 c.in-Some.ensures.0)
 
 pub returns-in-None : goal.returns-in-None
 returns-in-None c =
-    let line = c.in_ok-line.ensures in
     let earlier = map (λ n. n.now) c.args.earlier.now in
-    is_none (declaration c.args.keyword.now) (λ n. new_name n earlier) c.args.lines.now c.next.new.self c.in_ok-line.line.now (record { split = line.0; whole = line.1; taken = line.2 }) [] (declaration_in_line c.args.keyword.now earlier c.requires.one_line) c.in-None.ensures
+    is_none (declaration c.args.keyword.now) (λ n. new_name n earlier) c.args.lines.now c.next.new.self c.in_ok-line.line.now c.in_ok-line.ensures [] (declaration_in_line c.args.keyword.now earlier c.requires.one_line) c.in-None.ensures

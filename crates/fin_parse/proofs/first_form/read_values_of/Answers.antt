@@ -14,5 +14,4 @@ returns-in_err-line c =
 
 pub returns-in-None : goal.returns-in-None
 returns-in-None c =
-    let line = c.in_ok-line.ensures in
-    is_none val_of (words c.args.extent) c.args.lines.now c.next.new.self c.in_ok-line.line.now (record { split = line.0; whole = line.1; taken = line.2 }) [] (val_in_line c.args.extent) (rw c.in-None.is at c.in_ok-values.ensures)
+    is_none val_of (words c.args.extent) c.args.lines.now c.next.new.self c.in_ok-line.line.now c.in_ok-line.ensures [] (val_in_line c.args.extent) (rw c.in-None.is at c.in_ok-values.ensures)

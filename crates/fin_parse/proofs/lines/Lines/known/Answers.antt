@@ -6,7 +6,6 @@ use Rattle.fin_parse.proofs.lines.Lines.known.Goals as goal
 
 pub returns-else-is_joined : goal.returns-else-is_joined
 returns-else-is_joined c =
-    let line = c.in_ok-line.ensures in
     is_none (λ _. concat (map (λ p. p.now) c.args.pieces.now)) (λ _. none) c.args.self.now c.next.new.self c.in_ok-line.line.now
-    (record { split = line.0; whole = line.1; taken = line.2 })
+    c.in_ok-line.ensures
     tt (λ v h. c.requires.one_line) (λ _ _ e. let k = c.is_joined.ensures.1 e in cc)
