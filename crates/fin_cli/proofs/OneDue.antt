@@ -1,9 +1,6 @@
 -- One answer is due.
-use Rattle.std.proofs.Common.{◌≡◌, ◌∙◌, ◌<◌, ◌≤◌, ℕ, List, length, Some, None, refl, sym, ap, ap₂, arith}
+use Rattle.std.proofs.Common.{◌≡◌, ◌∙◌, ℕ, List, Some, None, refl, sym, ap, ap₂, arith}
 use Rattle.std.specs.declared.option.Option.{Option}
-use Rattle.fin_base.specs.declared.refusal.Rule.{Rule}
-use Rattle.fin_ports.specs.Bytes.{most}
-use Rattle.fin_engine.specs.Verdict.{Accepts, Breaks}
 use Rattle.fin_engine.proofs.Verdicts.{accepted_or_not, one_breach}
 use Rattle.fin_parse.specs.FirstForm.{IsJob}
 use Rattle.fin_parse.specs.declared.first_form.FirstForm.{FirstForm}

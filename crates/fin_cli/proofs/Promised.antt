@@ -1,7 +1,6 @@
 -- What follows from how a call ends.
-use Rattle.std.proofs.Common.{◌≡◌, ◌∙◌, ◌≤◌, ◌⊎◌, ℕ, List, [], length, Bool, true, false, refl, sym, ap, subst, inl, inr, arith}
+use Rattle.std.proofs.Common.{◌≡◌, ◌∙◌, ◌≤◌, ◌⊎◌, ℕ, List, [], length, false, refl, sym, ap, subst, inl, inr, arith}
 use Rattle.std.specs.Prelude.{Some, None, IfSome, Option}
-use Rattle.std.specs.Io.KnownBytes.{Keeps}
 use Rattle.std.proofs.lemmas.Bool.{cases_eq, cases_lt}
 use Rattle.fin_ports.specs.Bytes.{most}
 use Rattle.fin_parse.specs.FirstForm.{IsJob}
@@ -9,9 +8,9 @@ use Rattle.fin_parse.specs.declared.first_form.FirstForm.{FirstForm}
 use Rattle.fin_words.specs.declared.mode.Asked.{Asked}
 use Rattle.fin_words.specs.declared.mode.Mode.{Mode}
 use Rattle.fin_words.specs.declared.mode.Mode.TheVariants.{Run, Check, Plain, Gen}
-use Rattle.fin_cli.specs.Due.{Due, IsDue, IsDueForm, IsDueMode, IsDueRead, output_text, reads_job, unread}
-use Rattle.fin_cli.specs.Ends.{Across, Ends, Failed, Reads, Serves, Took}
-use Rattle.fin_cli.specs.Promises.{Completes, HasCauses, IsUnasked, UsesExactly, WritesExactly}
+use Rattle.fin_cli.specs.Due.{Due, IsDue, IsDueForm, IsDueMode, IsDueRead, IsDueThen, output_text, reads_job, unread}
+use Rattle.fin_cli.specs.Ends.{Across, Serves, Took}
+use Rattle.fin_cli.specs.Promises.{Completes, HasCauses, IsSilent, IsUnasked, UsesExactly, WritesExactly}
 use Rattle.fin_cli.proofs.Comings.{low_due}
 use Rattle.fin_cli.proofs.OneDue.{one_due}
 
@@ -106,3 +105,37 @@ uses_exactly asked source out err status (job, reads, ends) unasked = (
       (u.0, reads.unread (unread_job asked u.0), subst (λ d. Took out d.out) u.1 f.2.1, subst (λ d. Took err d.err) u.1 f.2.2),
   unasked,
 )
+
+form_silent : (job : List ℕ) (due : Due) → IsDueForm job due → 1 ≤ due.status → due.out ≡ []
+form_silent job due (IsDueForm.outside h) some = refl
+form_silent job due (IsDueForm.differs form h ne) some = refl
+form_silent job due (IsDueForm.runs form h e) some = absurd (omega arith)
+
+then_silent : (mode : Mode) (job : List ℕ) (due : Due) → IsDueThen mode job due → 1 ≤ due.status → due.out ≡ []
+then_silent Run job due h some = form_silent job due h some
+then_silent Check job due h some = absurd (omega (arith, ap (λ d. d.status) h))
+then_silent Plain job due h some = ap (λ d. d.out) h
+then_silent Gen job due h some = ap (λ d. d.out) h
+
+read_silent : (mode : Mode) (job : List ℕ) (due : Due) → IsDueRead job (IsDueThen mode job) due → 1 ≤ due.status → due.out ≡ []
+read_silent mode job due (IsDueRead.too_long many) some = refl
+read_silent mode job due (IsDueRead.breaks rule line few h) some = refl
+read_silent mode job due (IsDueRead.passes d few h next) some = then_silent mode job due next some
+
+mode_silent : (mode : Mode) (job : List ℕ) (due : Due) → IsDueMode mode job due → 1 ≤ due.status → due.out ≡ []
+mode_silent Run job due h some = read_silent Run job due h some
+mode_silent Check job due h some = read_silent Check job due h some
+mode_silent Plain job due h some = read_silent Plain job due h some
+mode_silent Gen job due h some = ap (λ d. d.out) h
+
+silent_due : (asked : Option Asked) (job : List ℕ) (due : Due) → IsDue asked job due → 1 ≤ due.status → due.out ≡ []
+silent_due None job due h some = ap (λ d. d.out) h
+silent_due (Some asked) job due h some = mode_silent asked.mode job due h some
+
+pub is_silent : (asked : Option Asked) (source out err : Across) (status : ℕ) → Serves asked source out err status → IsSilent out status
+is_silent asked source out err status (job, reads, ends) some few = elim (cases_eq status 3) [
+  | inl three ↦ (ends.read_fault three).1
+  | inr other ↦
+      let f = ends.finished (omega arith) in
+      subst (Took out) (silent_due asked job f.0 f.1 (omega (arith, f.2.0))) f.2.1
+]

@@ -1,10 +1,9 @@
 -- What changes at each coordinate of a vector, one after another, leave there.
-use Rattle.std.proofs.Common.{◌≡◌, ◌≢◌, ◌∙◌, ℕ, zero, suc, ◌+◌, ◌<◌, ◌≤◌, ℤ, pos, List, [], ◌∷◌, length, get_or, refl, sym, ap, arith, inl, inr, map}
+use Rattle.std.proofs.Common.{◌≡◌, ◌≢◌, ◌∙◌, ℕ, zero, suc, ◌+◌, ◌<◌, ◌≤◌, ℤ, pos, List, [], ◌∷◌, get_or, refl, sym, ap, arith, inl, inr, map}
 use Rattle.std.specs.Prelude.{fold}
 use Rattle.std.specs.List.{range_with_len}
-use Rattle.std.proofs.lemmas.Bool.{cases_eq, cases_lt}
-use Rattle.std.proofs.lemmas.List.FromFn.{get_or-map-range_with_len, length-map-range_with_len}
-use Rattle.fin_tensor.specs.TensorFunction.{TensorFunction, changed, value_at, with_value, filled}
+use Rattle.std.proofs.lemmas.Bool.{cases_eq}
+use Rattle.fin_tensor.specs.TensorFunction.{TensorFunction, changed, value_at, filled}
 use Rattle.fin_tensor.proofs.Functions.{gives_one_place}
 use Rattle.fin_base.specs.Words.{apply}
 use Rattle.fin_base.specs.declared.reduce.Reduce.TheVariants.{Add, Mul}

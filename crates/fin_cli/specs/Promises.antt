@@ -35,3 +35,7 @@ UsesExactly asked source out err status =
 -- A fault is answered only where its count rose in this call.
 abbrev pub HasCauses : Across → Across → Across → ℕ → Type 0
 HasCauses source out err status = (status ≡ 3 → Failed source) × (status ≡ 4 → Failed out ⊎ Failed err)
+
+-- With status 1, 2 or 3 the output took nothing.
+abbrev pub IsSilent : Across → ℕ → Type 0
+IsSilent out status = 1 ≤ status → status ≤ 3 → Took out []

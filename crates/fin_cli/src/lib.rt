@@ -8,10 +8,12 @@
 
 mod evaluate;
 mod line;
+mod memory;
 mod modes;
 mod outcome;
 mod top;
 
+pub use memory::finch_in_memory;
 pub use top::{finch, finch_one};
 
 #[cfg(test)]

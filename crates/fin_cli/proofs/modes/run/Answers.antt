@@ -1,4 +1,4 @@
-use Rattle.std.proofs.Common.{◌≡◌, refl}
+use Rattle.std.proofs.Common.{refl}
 use Rattle.fin_base.specs.declared.refusal.Rule.TheVariants.{S2, M1}
 use Rattle.fin_parse.proofs.FormLaws.{jobs_keep}
 use Rattle.fin_cli.specs.Due.{IsDueForm}
