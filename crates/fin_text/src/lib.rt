@@ -2,7 +2,9 @@
 #![tactic(auto)]
 
 mod numbers;
+mod pieces;
 mod storage;
+pub mod tensors;
 #[cfg(test)]
 mod tests;
 mod words;

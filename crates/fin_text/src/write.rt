@@ -73,7 +73,11 @@ fn head(alloc: Global, name: &Name, extent: u64) -> Result<Vec<u8>, AllocError>
 }
 
 // Puts the values behind what waits, and leaves less than a piece waiting.
-fn put_values<K: Sink>(sink: &mut K, waiting: &mut Vec<u8>, values: &[i64]) -> Result<(), WriteFail>
+pub(crate) fn put_values<K: Sink>(
+    sink: &mut K,
+    waiting: &mut Vec<u8>,
+    values: &[i64],
+) -> Result<(), WriteFail>
     ensures bytes { PutsOrWaits (K.taken sink.old) (K.taken sink.new) result (waiting.old.items ++ spaced values.now) waiting.new.items }
     ensures cause { IfErr result (λ e. e ≡ Fault → Rose (K.faults sink.old) (K.faults sink.new)) }
     ensures counted { K.faults sink.old ≤ K.faults sink.new }
@@ -96,7 +100,7 @@ fn push_value(text: &mut Vec<u8>, value: i64) -> Result<(), AllocError>
 }
 
 // Puts what waits, once it is a whole piece.
-fn put_piece<K: Sink>(sink: &mut K, waiting: &mut Vec<u8>) -> Result<(), WriteFail>
+pub(crate) fn put_piece<K: Sink>(sink: &mut K, waiting: &mut Vec<u8>) -> Result<(), WriteFail>
     ensures bytes { PutsOrWaits (K.taken sink.old) (K.taken sink.new) result waiting.old.items waiting.new.items }
     ensures cause { IfErr result (λ e. e ≡ Fault → Rose (K.faults sink.old) (K.faults sink.new)) }
     ensures counted { K.faults sink.old ≤ K.faults sink.new }
