@@ -8,7 +8,11 @@ use Rattle.fin_parse.specs.declared.first_form.FirstForm.{FirstForm}
 use Rattle.fin_words.specs.declared.mode.Asked.{Asked}
 use Rattle.fin_words.specs.declared.mode.Mode.{Mode}
 use Rattle.fin_words.specs.declared.mode.Mode.TheVariants.{Run, Check, Plain, Gen}
-use Rattle.fin_cli.specs.Due.{Due, IsDue, IsDueForm, IsDueMode, IsDueRead, IsDueThen, output_text, reads_job, unread}
+use Rattle.fin_text.specs.Tensors.{tensor_text}
+use Rattle.fin_tensor.specs.Canon.{IsCanon}
+use Rattle.fin_tensor.specs.declared.storage.Storage.{Storage}
+use Rattle.fin_cli.specs.Dense.{dense_vector, product_of}
+use Rattle.fin_cli.specs.Due.{Due, IsDue, IsDueForm, IsDueMode, IsDueRead, IsDueThen, reads_job, unread}
 use Rattle.fin_cli.specs.Ends.{Across, Serves, Took}
 use Rattle.fin_cli.specs.Promises.{Completes, HasCauses, IsSilent, IsUnasked, UsesExactly, WritesExactly}
 use Rattle.fin_cli.proofs.Comings.{low_due}
@@ -20,12 +24,14 @@ record Runs (job : List ℕ) (due : Due) : Type 0 where
   form : FirstForm
   stands : IsJob job form
   same : form.left.extent ≡ form.right.extent
-  text : due.out ≡ output_text form
+  storage : Storage
+  canon : IsCanon dense_vector (product_of form) storage
+  text : due.out ≡ tensor_text form.product storage
 
 form_runs : (job : List ℕ) (due : Due) → length job ≤ most → IsDueForm job due → due.status ≡ 0 → Runs job due
 form_runs job due few (IsDueForm.outside h) zero = absurd (omega arith)
 form_runs job due few (IsDueForm.differs form h ne) zero = absurd (omega arith)
-form_runs job due few (IsDueForm.runs form h e) zero = record { few = few; form = form; stands = h; same = e; text = refl }
+form_runs job due few (IsDueForm.runs form h e s canon) zero = record { few = few; form = form; stands = h; same = e; storage = s; canon = canon; text = refl }
 
 job_runs : (job : List ℕ) (due : Due) → IsDueRead job (IsDueForm job) due → due.status ≡ 0 → Runs job due
 job_runs job due (IsDueRead.too_long many) zero = absurd (omega arith)
@@ -49,7 +55,7 @@ writes_exactly (Some asked) source out err status (job, reads, ends) a is run ze
     let asks : asked.mode ≡ Run = ap (λ x. x.mode) same ∙ run in
     let r = mode_runs asked.mode job due asks f.1 due_zero in
     let whole = reads.whole (ap reads_job asks) small r.few in
-    (job, reads.told, whole.0, whole.1, r.form, r.stands, r.same, subst (Took out) r.text f.2.1)
+    (job, reads.told, whole.0, whole.1, r.form, r.stands, r.same, r.storage, r.canon, subst (Took out) r.text f.2.1)
 
 told_is : (before : Option (List ℕ)) (job x : List ℕ) → before ≡ Some job → IfSome before (λ bytes. x ≡ bytes) → x ≡ job
 told_is None job x e h = cc
@@ -109,7 +115,7 @@ uses_exactly asked source out err status (job, reads, ends) unasked = (
 form_silent : (job : List ℕ) (due : Due) → IsDueForm job due → 1 ≤ due.status → due.out ≡ []
 form_silent job due (IsDueForm.outside h) some = refl
 form_silent job due (IsDueForm.differs form h ne) some = refl
-form_silent job due (IsDueForm.runs form h e) some = absurd (omega arith)
+form_silent job due (IsDueForm.runs form h e s canon) some = absurd (omega arith)
 
 then_silent : (mode : Mode) (job : List ℕ) (due : Due) → IsDueThen mode job due → 1 ≤ due.status → due.out ≡ []
 then_silent Run job due h some = form_silent job due h some
