@@ -4,9 +4,9 @@ use Rattle.std.specs.Prelude.{Ok, Err, Result, true}
 use Rattle.std.specs.Io.KnownBytes.{Appends}
 use Rattle.std.proofs.KnownBytes.{Appends-nil}
 use Rattle.fin_base.specs.declared.refusal.Refusal.{Refusal}
-use Rattle.fin_parse.specs.declared.first_form.FirstForm.{FirstForm}
-use Rattle.fin_parse.specs.FirstForm.{IsJob}
-use Rattle.fin_parse.specs.Lines.{none}
+use Rattle.fin_form.specs.declared.first_form.FirstForm.{FirstForm}
+use Rattle.fin_form.specs.FirstForm.{IsJob}
+use Rattle.fin_form.specs.Lines.{none}
 use Rattle.fin_text.specs.Tensors.{tensor_text}
 use Rattle.fin_tensor.specs.declared.storage.Storage.{Storage}
 use Rattle.fin_base.specs.declared.refusal.Fail.{Fail}

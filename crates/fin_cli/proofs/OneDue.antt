@@ -2,9 +2,9 @@
 use Rattle.std.proofs.Common.{◌≡◌, ◌∙◌, ℕ, List, Some, None, refl, sym, ap, ap₂, subst, arith}
 use Rattle.std.specs.declared.option.Option.{Option}
 use Rattle.fin_engine.proofs.Verdicts.{accepted_or_not, one_breach}
-use Rattle.fin_parse.specs.FirstForm.{IsJob}
-use Rattle.fin_parse.specs.declared.first_form.FirstForm.{FirstForm}
-use Rattle.fin_parse.proofs.FormLaws.{one_form}
+use Rattle.fin_form.specs.FirstForm.{IsJob}
+use Rattle.fin_form.specs.declared.first_form.FirstForm.{FirstForm}
+use Rattle.fin_form.proofs.FormLaws.{one_form}
 use Rattle.fin_text.specs.Tensors.{tensor_text}
 use Rattle.fin_tensor.specs.Canon.{IsCanon}
 use Rattle.fin_tensor.specs.TensorFunction.{TensorFunction}

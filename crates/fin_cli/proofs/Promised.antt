@@ -3,8 +3,8 @@ use Rattle.std.proofs.Common.{◌≡◌, ◌∙◌, ◌≤◌, ◌⊎◌, ℕ, L
 use Rattle.std.specs.Prelude.{Some, None, IfSome, Option}
 use Rattle.std.proofs.lemmas.Bool.{cases_eq, cases_lt}
 use Rattle.fin_ports.specs.Bytes.{most}
-use Rattle.fin_parse.specs.FirstForm.{IsJob}
-use Rattle.fin_parse.specs.declared.first_form.FirstForm.{FirstForm}
+use Rattle.fin_form.specs.FirstForm.{IsJob}
+use Rattle.fin_form.specs.declared.first_form.FirstForm.{FirstForm}
 use Rattle.fin_words.specs.declared.mode.Asked.{Asked}
 use Rattle.fin_words.specs.declared.mode.Mode.{Mode}
 use Rattle.fin_words.specs.declared.mode.Mode.TheVariants.{Run, Check, Plain, Gen}

@@ -2,7 +2,7 @@
 use Rattle.std.proofs.Common.{◌≡◌, ◌∙◌, ℕ, zero, suc, ◌+◌, ℤ, pos, List, [], ◌∷◌, ◌++◌, length, map, refl, sym, ap, ap₂, append-nil}
 use Rattle.std.specs.Prelude.{fold}
 use Rattle.std.specs.List.{range_with_len}
-use Rattle.fin_parse.specs.declared.first_form.FirstForm.{FirstForm}
+use Rattle.fin_form.specs.declared.first_form.FirstForm.{FirstForm}
 use Rattle.fin_tensor.specs.Canon.{IsCanon, Slice, canon_parts, canon_values, slice_at}
 use Rattle.fin_tensor.specs.TensorFunction.{TensorFunction, changed, filled, value_at}
 use Rattle.fin_tensor.specs.declared.format.Level.TheVariants.{Dense}

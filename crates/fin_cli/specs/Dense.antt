@@ -3,7 +3,7 @@ use Rattle.std.specs.Prelude.{ℕ, ℤ, pos, List, [], ◌∷◌, slice_index_or
 use Rattle.std.specs.List.{range_with_len}
 use Rattle.fin_base.specs.Words.{apply}
 use Rattle.fin_base.specs.declared.reduce.Reduce.TheVariants.{Add, Mul}
-use Rattle.fin_parse.specs.declared.first_form.FirstForm.{FirstForm}
+use Rattle.fin_form.specs.declared.first_form.FirstForm.{FirstForm}
 use Rattle.fin_tensor.specs.declared.format.Format.{Format}
 use Rattle.fin_tensor.specs.declared.format.Level.TheVariants.{Dense}
 use Rattle.fin_tensor.specs.declared.format.Wrap.TheVariants.{Bare}

@@ -5,8 +5,8 @@ use Rattle.fin_base.specs.declared.refusal.Refusal.{Refusal}
 use Rattle.fin_base.specs.declared.refusal.Rule.{Rule}
 use Rattle.fin_base.specs.declared.refusal.Rule.TheVariants.{J1, J2, S1, S2, S3, N1, N2, N3, F1, F2, X1, X2, X3, X4, X5, X6, L1, L2, L3, L4, L5, L6, L7, M1, M2, M3, M4, M5, B1, B2, B3, U1, U2, C1, C2, C3, C4, C5, W1}
 use Rattle.fin_ports.specs.Bytes.{most}
-use Rattle.fin_parse.specs.declared.first_form.FirstForm.{FirstForm}
-use Rattle.fin_parse.specs.FirstForm.{IsJob}
+use Rattle.fin_form.specs.declared.first_form.FirstForm.{FirstForm}
+use Rattle.fin_form.specs.FirstForm.{IsJob}
 use Rattle.fin_words.specs.declared.mode.Asked.{Asked}
 use Rattle.fin_words.specs.declared.mode.Mode.{Mode}
 use Rattle.fin_words.specs.declared.mode.Mode.TheVariants.{Run, Check, Plain, Gen}

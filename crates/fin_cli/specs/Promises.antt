@@ -1,8 +1,8 @@
 -- What a call promises, in plain words.
 use Rattle.std.specs.Prelude.{◌≡◌, ℕ, ◌≤◌, ◌⊎◌, List, [], IfSome, Some, None}
 use Rattle.std.specs.Io.KnownBytes.{Consumes, IsAtEnd, Keeps}
-use Rattle.fin_parse.specs.FirstForm.{IsJob}
-use Rattle.fin_parse.specs.declared.first_form.FirstForm.{FirstForm}
+use Rattle.fin_form.specs.FirstForm.{IsJob}
+use Rattle.fin_form.specs.declared.first_form.FirstForm.{FirstForm}
 use Rattle.std.specs.declared.option.Option.{Option}
 use Rattle.fin_words.specs.declared.mode.Asked.{Asked}
 use Rattle.fin_words.specs.declared.mode.Mode.TheVariants.{Run}

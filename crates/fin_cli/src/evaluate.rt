@@ -6,7 +6,7 @@ ghost use Rattle.fin_tensor.specs.Canon.{IsCanon};
 ghost use Rattle.fin_cli.specs.Dense.{dense_vector, evaluated, product_of, values_of, vector};
 
 use fin_base::{Reduce, apply};
-use fin_parse::FirstForm;
+use fin_form::FirstForm;
 use fin_tensor::{Format, Level, Levels, Nums, Part, Seq, Storage, Vals, Wrap};
 use std::alloc::{AllocError, Global};
 

@@ -1,7 +1,7 @@
 //! The modes, over the bytes of a job.
 ghost use Rattle.std.specs.Prelude.{◌≡◌, ◌≢◌, ◌≤◌, ◌^◌, ℕ, List, length};
 ghost use Rattle.fin_ports.specs.Bytes.{most};
-ghost use Rattle.fin_parse.specs.FirstForm.{IsJob};
+ghost use Rattle.fin_form.specs.FirstForm.{IsJob};
 ghost use Rattle.fin_cli.specs.Due.{IsDueForm, IsDueRead, IsDueThen, refusal_text};
 ghost use Rattle.fin_cli.specs.Ends.{Across, across};
 ghost use Rattle.fin_cli.specs.Stops.{Comes, Fails, Refuses};
@@ -11,7 +11,7 @@ use crate::line::refusal_text;
 use crate::outcome::{Answer, Stop};
 use fin_base::{Fail, Refusal, Rule};
 use fin_engine::check;
-use fin_parse::{FirstForm, FormFail, read_first_form};
+use fin_form::{FirstForm, FormFail, read_first_form};
 use fin_ports::{Failed, Sink, put_all};
 use fin_text::WriteFail;
 use fin_text::tensors::write_tensor;

@@ -1,6 +1,6 @@
 use Rattle.std.proofs.Common.{refl}
 use Rattle.fin_base.specs.declared.refusal.Rule.TheVariants.{S2, M1}
-use Rattle.fin_parse.proofs.FormLaws.{jobs_keep}
+use Rattle.fin_form.proofs.FormLaws.{jobs_keep}
 use Rattle.fin_cli.specs.Due.{IsDueForm}
 use Rattle.fin_cli.proofs.Comings.{refuses_comes, small_extent, whole_left, whole_right}
 use Rattle.fin_cli.proofs.modes.run.Goals as goal
