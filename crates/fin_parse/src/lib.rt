@@ -1,0 +1,25 @@
+//! From tokens to programs.
+#![tactic(auto)]
+
+mod class;
+mod cursor;
+mod grammar;
+mod names;
+mod reader;
+mod scope;
+mod syntax;
+#[cfg(test)]
+mod tests;
+mod text;
+mod tree;
+mod trees;
+
+pub use class::{Class, class_of};
+pub use cursor::Cursor;
+pub use grammar::{Form, Phrase, Symbol, form_at, row_of};
+pub use reader::read_phrase;
+pub use scope::{Bound, Tensor};
+pub use syntax::read_syntax;
+pub use text::read_text;
+pub use tree::{Room, Stop, Tree};
+pub use trees::Text;
