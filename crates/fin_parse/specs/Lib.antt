@@ -5,4 +5,5 @@ pub mod Syntax
 pub mod Reading
 pub mod Text
 pub mod Breaches
+pub mod Roles
 pub mod Names

@@ -1,17 +1,22 @@
 -- The breaches of the rules on names, in the order of the text.
-use Rattle.std.specs.Prelude.{ℕ, ◌+◌, ◌-◌, Bool, true, false, ◌||◌, ◌==◌, if◌then◌else◌, List, [], ◌∷◌, ◌++◌, take, drop, slice_get, Option, Some, None, unwrap_or, is_some}
-use Rattle.std.specs.List.{flat_map, find}
+use Rattle.std.specs.Prelude.{ℕ, ◌+◌, ◌-◌, min, Bool, true, false, ◌||◌, ◌==◌, if◌then◌else◌, List, [], ◌∷◌, ◌++◌, take, drop, slice_get, Option, Some, None, unwrap_or, is_some}
+use Rattle.std.specs.List.{flat_map, find, fold}
 use Rattle.std.specs.Str.{bytes_eq}
 use Rattle.fin_base.specs.declared.refusal.Rule.{Rule}
 use Rattle.fin_base.specs.declared.refusal.Rule.TheVariants.{N1, N2, N3}
 use Rattle.fin_base.specs.declared.refusal.Refusal.{Refusal}
 use Rattle.fin_lex.specs.declared.token.Token.{Token}
 use Rattle.fin_parse.specs.declared.grammar.Form.{Form}
-use Rattle.fin_parse.specs.declared.grammar.Form.TheVariants as form
+use Rattle.fin_parse.specs.Roles.{role_of, name_place, inner_from, counting_of}
 use Rattle.fin_parse.specs.declared.tree.Tree.{Tree, fold-Tree}
 use Rattle.fin_parse.specs.declared.tree.Tree.TheOpen.{Tree-F}
 use Rattle.fin_parse.specs.declared.scope.Tensor.{Tensor}
 use Rattle.fin_parse.specs.declared.scope.Bound.{Bound}
+use Rattle.fin_parse.specs.declared.scope.Place.{Place}
+use Rattle.fin_parse.specs.declared.roles.Role.{Role}
+use Rattle.fin_parse.specs.declared.roles.Role.TheVariants.{LoopName, LetName, Changed, Turned, Operand, IndexName, LooseName, AddedName, Other}
+use Rattle.fin_parse.specs.declared.roles.Counting.{Counting}
+use Rattle.fin_parse.specs.declared.roles.Counting.TheVariants.{Never, Second, Single, Sum}
 
 -- the bytes of a token
 abbrev pub text_at : List ℕ → Token → List ℕ
@@ -67,9 +72,12 @@ nothing = record { token = None; count = None; breaches = λ s. [] }
 abbrev pub part_at : List Facts → ℕ → Facts
 part_at us i = unwrap_or (slice_get us i) nothing
 
+-- a sum that stops at the greatest u64, which no text reaches
+abbrev pub plus : ℕ → ℕ → ℕ
+plus a b = min (a + b) 18446744073709551615
+
 abbrev pub counted : List Facts → ℕ
-counted [] = 0
-counted (u ∷ us) = unwrap_or u.count 0 + counted us
+counted us = fold (λ n (u : Facts). plus n (unwrap_or u.count 0)) 0 us
 
 abbrev pub all_breaches : List Facts → Scope → List Refusal
 all_breaches us s = flat_map (λ (u : Facts). u.breaches s) us
@@ -84,63 +92,58 @@ abbrev pub is_begun : List ℕ → Option Token → Token → Bool
 is_begun text None name = false
 is_begun text (Some t) name = is_same text t name
 
+abbrev pub inner_scope : Role → Token → Scope → Scope
+inner_scope LoopName name s = with_bound s (record { name = name; is_loop = true })
+inner_scope LetName name s = with_bound s (record { name = name; is_loop = false })
+inner_scope Changed name s = s
+inner_scope Turned name s = s
+inner_scope Operand name s = s
+inner_scope IndexName name s = s
+inner_scope LooseName name s = with_begun s name
+inner_scope AddedName name s = s
+inner_scope Other name s = s
+
+abbrev pub scope_within : Role → Option Token → Scope → Scope
+scope_within role None s = s
+scope_within role (Some name) s = inner_scope role name s
+
+abbrev pub form_count : Counting → List Facts → Option ℕ
+form_count Never us = None
+form_count Second us = (part_at us 1).count
+form_count Single us = Some 1
+form_count Sum us = Some (counted us)
+
+abbrev pub group_count : List Facts → Option ℕ
+group_count [] = None
+group_count (u ∷ us) = Some (counted (u ∷ us))
+
 module _ (text : List ℕ) where
-  -- the breach at a name, by the form in which it stands, with the count of what stands behind it
-  abbrev pub own_breaches : Form → Token → Option ℕ → Scope → List Refusal
-  own_breaches form.Turns name count s = binding name (is_some (tensor_named text s.tensors name) || is_some (bound_named text s.bound name))
-  own_breaches form.Let name count s = binding name (is_some (tensor_named text s.tensors name) || is_some (bound_named text s.bound name))
-  own_breaches form.Named name count s = tensor_use name count (tensor_named text s.tensors name)
-  own_breaches form.Turn name count s = tensor_use name None (tensor_named text s.tensors name)
-  own_breaches form.NamedOperand name None s = variable_use name (bound_named text s.bound name)
-  own_breaches form.NamedOperand name (Some n) s = tensor_use name (Some n) (tensor_named text s.tensors name)
-  own_breaches form.Shifted name count s = loop_use name (bound_named text s.bound name)
-  own_breaches form.LooseNamed name count s = loop_use name (bound_named text s.bound name)
-  own_breaches form.AddedName name count s = if is_begun text s.begun name then breach N1 name else loop_use name (bound_named text s.bound name)
-  own_breaches _ name count s = []
+  -- the breach at a name, by its role, with the count of what stands behind it
+  abbrev pub own_breaches : Role → Token → Option ℕ → Scope → List Refusal
+  own_breaches LoopName name count s = binding name (is_some (tensor_named text s.tensors name) || is_some (bound_named text s.bound name))
+  own_breaches LetName name count s = binding name (is_some (tensor_named text s.tensors name) || is_some (bound_named text s.bound name))
+  own_breaches Changed name count s = tensor_use name count (tensor_named text s.tensors name)
+  own_breaches Turned name count s = tensor_use name None (tensor_named text s.tensors name)
+  own_breaches Operand name None s = variable_use name (bound_named text s.bound name)
+  own_breaches Operand name (Some n) s = tensor_use name (Some n) (tensor_named text s.tensors name)
+  own_breaches IndexName name count s = loop_use name (bound_named text s.bound name)
+  own_breaches LooseName name count s = loop_use name (bound_named text s.bound name)
+  own_breaches AddedName name count s = if is_begun text s.begun name then breach N1 name else loop_use name (bound_named text s.bound name)
+  own_breaches Other name count s = []
 
-  -- where the name of a form stands
-  abbrev pub name_place : Form → ℕ
-  name_place form.Let = 1
-  name_place form.Turn = 1
-  name_place _ = 0
+  abbrev pub named_breaches : Role → Option Token → Option ℕ → Scope → List Refusal
+  named_breaches role None count s = []
+  named_breaches role (Some name) count s = own_breaches role name count s
 
-  abbrev pub named_breaches : Form → Option Token → Option ℕ → Scope → List Refusal
-  named_breaches f None count s = []
-  named_breaches f (Some name) count s = own_breaches f name count s
-
-  -- the scope of the parts of a form from a place on
-  abbrev pub inner_from : Form → ℕ
-  inner_from form.Let = 4
-  inner_from _ = 0
-
-  abbrev pub inner_scope : Form → Option Token → Scope → Scope
-  inner_scope form.Turns (Some name) s = with_bound s (record { name = name; is_loop = true })
-  inner_scope form.Let (Some name) s = with_bound s (record { name = name; is_loop = false })
-  inner_scope form.LooseNamed (Some name) s = with_begun s name
-  inner_scope _ name s = s
-
-  abbrev pub form_count : Form → List Facts → Option ℕ
-  form_count form.Declaration us = None
-  form_count form.Update us = (part_at us 1).count
-  form_count form.Constant us = Some 1
-  form_count form.Shifted us = Some 1
-  form_count form.BareIndex us = Some 1
-  form_count form.ProtocolIndex us = Some 1
-  form_count _ us = Some (counted us)
-
-  abbrev pub group_count : List Facts → Option ℕ
-  group_count [] = None
-  group_count (u ∷ us) = Some (counted (u ∷ us))
-
-  abbrev pub form_breaches : Form → List Facts → Scope → List Refusal
-  form_breaches f us s =
-      let name = (part_at us (name_place f)).token in
-      named_breaches f name (part_at us 1).count s ++ (all_breaches (take (inner_from f) us) s ++ all_breaches (drop (inner_from f) us) (inner_scope f name s))
+  abbrev pub role_breaches : Role → List Facts → Scope → List Refusal
+  role_breaches role us s =
+      let name = (part_at us (name_place role)).token in
+      named_breaches role name (part_at us 1).count s ++ (all_breaches (take (inner_from role) us) s ++ all_breaches (drop (inner_from role) us) (scope_within role name s))
 
   abbrev pub facts_step : Tree-F Facts → Facts
   facts_step (Tree-F.Leaf t) = record { token = Some t; count = None; breaches = λ s. [] }
   facts_step (Tree-F.Group us) = record { token = None; count = group_count us; breaches = all_breaches us }
-  facts_step (Tree-F.Node f us) = record { token = None; count = form_count f us; breaches = form_breaches f us }
+  facts_step (Tree-F.Node f us) = record { token = None; count = form_count (counting_of f) us; breaches = role_breaches (role_of f) us }
 
   abbrev pub facts_of : Tree → Facts
   facts_of = fold-Tree Facts facts_step
@@ -149,3 +152,7 @@ module _ (text : List ℕ) where
 abbrev pub first_of : List Refusal → Option Refusal
 first_of [] = None
 first_of (r ∷ rs) = Some r
+
+-- the scope of a place
+abbrev pub scope_of : List Tensor → Place → Scope
+scope_of tensors p = record { tensors = tensors; bound = p.bound.items; begun = p.begun }

@@ -1,11 +1,14 @@
 //! From tokens to programs.
 #![tactic(auto)]
 
+mod breaches;
 mod class;
+mod counts;
 mod cursor;
 mod grammar;
 mod names;
 mod reader;
+mod roles;
 mod scope;
 mod syntax;
 #[cfg(test)]

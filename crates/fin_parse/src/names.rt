@@ -1,20 +1,10 @@
-//! The first breach of the rules on names in the trees of statements.
-ghost use Rattle.std.specs.Prelude.{◌≡◌, ◌+◌, length, drop, take, IfOk, OnOk, OnErr, ◌++◌, ◌∷◌, [], None};
+//! What a name stands for, and the breach where it stands for nothing that may stand there.
+ghost use Rattle.std.specs.Prelude.{◌≡◌};
 ghost use Rattle.fin_parse.specs.Names as spec;
 
-use crate::grammar::Form;
 use crate::scope::{Bound, Tensor};
-use crate::tree::Tree;
 use fin_base::{Refusal, Rule};
 use fin_lex::Token;
-use std::alloc::AllocError;
-
-/// The text and the tensors that its headers name.
-#[derive(Clone, Copy)]
-pub struct Names<'a> {
-    pub text: &'a [u8],
-    pub tensors: &'a [Tensor],
-}
 
 fn text_at(text: &[u8], token: Token) -> &[u8]
     ensures value { result.now ≡ spec.text_at text.now token }
@@ -24,13 +14,13 @@ fn text_at(text: &[u8], token: Token) -> &[u8]
     &text[from..to]
 }
 
-fn is_same(text: &[u8], a: Token, b: Token) -> bool
+pub(crate) fn is_same(text: &[u8], a: Token, b: Token) -> bool
     ensures value { result ≡ spec.is_same text.now a b }
 {
     text_at(text, a) == text_at(text, b)
 }
 
-fn tensor_named(text: &[u8], tensors: &[Tensor], name: Token) -> Option<Tensor>
+pub(crate) fn tensor_named(text: &[u8], tensors: &[Tensor], name: Token) -> Option<Tensor>
     ensures value { result ≡ spec.tensor_named text.now tensors.now name }
 {
     for tensor in tensors {
@@ -41,7 +31,7 @@ fn tensor_named(text: &[u8], tensors: &[Tensor], name: Token) -> Option<Tensor>
     None
 }
 
-fn bound_named(text: &[u8], bound: &[Bound], name: Token) -> Option<Bound>
+pub(crate) fn bound_named(text: &[u8], bound: &[Bound], name: Token) -> Option<Bound>
     ensures value { result ≡ spec.bound_named text.now bound.now name }
 {
     for variable in bound {
@@ -52,7 +42,7 @@ fn bound_named(text: &[u8], bound: &[Bound], name: Token) -> Option<Bound>
     None
 }
 
-fn breach(rule: Rule, name: Token) -> Option<Refusal>
+pub(crate) fn breach(rule: Rule, name: Token) -> Option<Refusal>
     ensures value { result ≡ spec.first_of (spec.breach rule name) }
 {
     Some(Refusal {
@@ -61,7 +51,7 @@ fn breach(rule: Rule, name: Token) -> Option<Refusal>
     })
 }
 
-fn tensor_use(name: Token, count: Option<u64>, tensor: Option<Tensor>) -> Option<Refusal>
+pub(crate) fn tensor_use(name: Token, count: Option<u64>, tensor: Option<Tensor>) -> Option<Refusal>
     ensures value { result ≡ spec.first_of (spec.tensor_use name count tensor) }
 {
     match tensor {
@@ -79,7 +69,7 @@ fn tensor_use(name: Token, count: Option<u64>, tensor: Option<Tensor>) -> Option
     }
 }
 
-fn variable_use(name: Token, variable: Option<Bound>) -> Option<Refusal>
+pub(crate) fn variable_use(name: Token, variable: Option<Bound>) -> Option<Refusal>
     ensures value { result ≡ spec.first_of (spec.variable_use name variable) }
 {
     match variable {
@@ -88,7 +78,7 @@ fn variable_use(name: Token, variable: Option<Bound>) -> Option<Refusal>
     }
 }
 
-fn loop_use(name: Token, variable: Option<Bound>) -> Option<Refusal>
+pub(crate) fn loop_use(name: Token, variable: Option<Bound>) -> Option<Refusal>
     ensures value { result ≡ spec.first_of (spec.loop_use name variable) }
 {
     match variable {
@@ -103,15 +93,8 @@ fn loop_use(name: Token, variable: Option<Bound>) -> Option<Refusal>
     }
 }
 
-fn binding(name: Token, taken: bool) -> Option<Refusal>
+pub(crate) fn binding(name: Token, taken: bool) -> Option<Refusal>
     ensures value { result ≡ spec.first_of (spec.binding name taken) }
 {
     if taken { breach(Rule::N2, name) } else { None }
-}
-
-/// Names that may stand at a place: the variables that are bound, and the one that a `~` index begins with.
-#[derive(Drop)]
-pub struct Place {
-    pub bound: Vec<Bound>,
-    pub begun: Option<Token>,
 }

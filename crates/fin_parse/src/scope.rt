@@ -14,3 +14,10 @@ pub struct Bound {
     pub name: Token,
     pub is_loop: bool,
 }
+
+/// A place in a text: the variables that are bound there, outermost first, and the variable that a `~` index begins with.
+#[derive(Drop)]
+pub struct Place {
+    pub bound: Vec<Bound>,
+    pub begun: Option<Token>,
+}
