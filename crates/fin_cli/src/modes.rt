@@ -13,8 +13,7 @@ use fin_base::{Fail, Refusal, Rule};
 use fin_engine::check;
 use fin_form::{FirstForm, FormFail, read_first_form};
 use fin_ports::{Failed, Sink, put_all};
-use fin_text::WriteFail;
-use fin_text::tensors::write_tensor;
+use fin_text::{WriteFail, write_tensor};
 use fin_words::Mode;
 use std::alloc::Global;
 

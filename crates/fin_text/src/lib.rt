@@ -3,14 +3,13 @@
 
 mod numbers;
 mod pieces;
-mod storage;
-pub mod tensors;
+mod tensors;
 #[cfg(test)]
 mod tests;
 mod words;
 mod write;
 
 pub use numbers::{read_size, read_value};
-pub use storage::Storage;
+pub use tensors::write_tensor;
 pub use words::{read_sizes, read_values};
-pub use write::{WriteFail, write_tensor};
+pub use write::WriteFail;
