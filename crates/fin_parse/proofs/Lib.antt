@@ -7,3 +7,4 @@ pub mod TextForms
 pub mod Classes
 pub mod LastLines
 pub mod Finds
+pub mod Parts

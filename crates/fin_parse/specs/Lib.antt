@@ -7,3 +7,4 @@ pub mod Text
 pub mod Breaches
 pub mod Roles
 pub mod Names
+pub mod Leaves

@@ -1,6 +1,6 @@
 -- The breaches of the rules on names, in the order of the text.
-use Rattle.std.specs.Prelude.{ℕ, ◌+◌, ◌-◌, min, Bool, true, false, ◌||◌, ◌==◌, if◌then◌else◌, List, [], ◌∷◌, ◌++◌, take, drop, slice_get, Option, Some, None, unwrap_or, is_some}
-use Rattle.std.specs.List.{flat_map, find, fold}
+use Rattle.std.specs.Prelude.{ℕ, zero, suc, ◌+◌, ◌-◌, min, Bool, true, false, ◌||◌, ◌==◌, if◌then◌else◌, List, [], ◌∷◌, ◌++◌, take, drop, slice_get, Option, Some, None, unwrap_or, is_some}
+use Rattle.std.specs.List.{find, fold}
 use Rattle.std.specs.Str.{bytes_eq}
 use Rattle.fin_base.specs.declared.refusal.Rule.{Rule}
 use Rattle.fin_base.specs.declared.refusal.Rule.TheVariants.{N1, N2, N3}
@@ -79,8 +79,11 @@ plus a b = min (a + b) 18446744073709551615
 abbrev pub counted : List Facts → ℕ
 counted us = fold (λ n (u : Facts). plus n (unwrap_or u.count 0)) 0 us
 
-abbrev pub all_breaches : List Facts → Scope → List Refusal
-all_breaches us s = flat_map (λ (u : Facts). u.breaches s) us
+-- the breaches of parts, those before a place in one scope and the others in another one
+abbrev pub part_breaches : ℕ → List Facts → Scope → Scope → List Refusal
+part_breaches from [] outer inner = []
+part_breaches zero (u ∷ us) outer inner = u.breaches inner ++ part_breaches zero us outer inner
+part_breaches (suc n) (u ∷ us) outer inner = u.breaches outer ++ part_breaches n us outer inner
 
 abbrev pub with_bound : Scope → Bound → Scope
 with_bound s b = record { tensors = s.tensors; bound = s.bound ++ b ∷ []; begun = s.begun }
@@ -138,11 +141,11 @@ module _ (text : List ℕ) where
   abbrev pub role_breaches : Role → List Facts → Scope → List Refusal
   role_breaches role us s =
       let name = (part_at us (name_place role)).token in
-      named_breaches role name (part_at us 1).count s ++ (all_breaches (take (inner_from role) us) s ++ all_breaches (drop (inner_from role) us) (scope_within role name s))
+      named_breaches role name (part_at us 1).count s ++ part_breaches (inner_from role) us s (scope_within role name s)
 
   abbrev pub facts_step : Tree-F Facts → Facts
   facts_step (Tree-F.Leaf t) = record { token = Some t; count = None; breaches = λ s. [] }
-  facts_step (Tree-F.Group us) = record { token = None; count = group_count us; breaches = all_breaches us }
+  facts_step (Tree-F.Group us) = record { token = None; count = group_count us; breaches = λ s. part_breaches 0 us s s }
   facts_step (Tree-F.Node f us) = record { token = None; count = form_count (counting_of f) us; breaches = role_breaches (role_of f) us }
 
   abbrev pub facts_of : Tree → Facts

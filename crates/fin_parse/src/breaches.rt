@@ -1,5 +1,6 @@
 //! The first breach of the rules on names in trees, in the order of the text.
-ghost use Rattle.std.specs.Prelude.{◌≡◌, ◌++◌, ◌∷◌, [], IfOk, map};
+ghost use Rattle.std.specs.Prelude.{◌≡◌, ◌++◌, ◌∷◌, [], IfOk, IfSome, None, Some, List, map};
+ghost use Rattle.fin_parse.specs.declared.scope.Tensor.{Tensor};
 ghost use Rattle.fin_parse.specs.Names as spec;
 
 use crate::counts::Names;
@@ -18,22 +19,9 @@ pub(crate) fn check(alloc: Global, names: &Names, place: &Place, tree: &Tree) ->
 {
     match tree {
         Tree::Leaf(_) => Ok(None),
-        Tree::Group(parts) => check_all(alloc, names, place, parts.as_slice()),
+        Tree::Group(parts) => check_parts(alloc, names, place, place, 0, parts.as_slice()),
         Tree::Node(form, parts) => check_role(alloc, names, place, role_of(*form), parts.as_slice()),
     }
-}
-
-#[cycle(checks)]
-pub(crate) fn check_all(alloc: Global, names: &Names, place: &Place, parts: &[Tree]) -> Result<Option<Refusal>, AllocError>
-    ensures first { IfOk result (λ r. r ≡ spec.first_of (spec.all_breaches (map (spec.facts_of names.now.text.now) parts.now) (spec.scope_of names.now.tensors.now place.now))) }
-{
-    for part in parts {
-        let found = check(alloc, names, place, part)?;
-        if found.is_some() {
-            return Ok(found);
-        }
-    }
-    Ok(None)
 }
 
 #[cycle(checks)]
@@ -45,40 +33,59 @@ fn check_role(alloc: Global, names: &Names, place: &Place, role: Role, parts: &[
     if own.is_some() {
         return Ok(own);
     }
-    let from = inner_from(role).min(parts.len());
-    let outer = check_all(alloc, names, place, &parts[..from])?;
-    if outer.is_some() {
-        return Ok(outer);
+    match within(alloc, place, role, name)? {
+        Some(inner) => check_parts(alloc, names, place, &inner, inner_from(role), parts),
+        None => check_parts(alloc, names, place, place, inner_from(role), parts),
     }
-    check_within(alloc, names, place, role, name, &parts[from..])
 }
 
+/// The first breach in parts, of which those before a place stand in the outer scope and the others in the inner one.
 #[cycle(checks)]
-fn check_within(alloc: Global, names: &Names, place: &Place, role: Role, name: Option<Token>, parts: &[Tree]) -> Result<Option<Refusal>, AllocError>
-    ensures first { IfOk result (λ r. r ≡ spec.first_of (spec.all_breaches (map (spec.facts_of names.now.text.now) parts.now) (spec.scope_within role name (spec.scope_of names.now.tensors.now place.now)))) }
+fn check_parts(alloc: Global, names: &Names, outer: &Place, inner: &Place, from: usize, parts: &[Tree]) -> Result<Option<Refusal>, AllocError>
+    ensures first { IfOk result (λ r. r ≡ spec.first_of (spec.part_breaches from (map (spec.facts_of names.now.text.now) parts.now) (spec.scope_of names.now.tensors.now outer.now) (spec.scope_of names.now.tensors.now inner.now))) }
 {
-    match name {
-        Some(name) => match role {
-            Role::LoopName => {
-                let inner = bound_within(alloc, place, Bound { name, is_loop: true })?;
-                check_all(alloc, names, &inner, parts)
-            }
-            Role::LetName => {
-                let inner = bound_within(alloc, place, Bound { name, is_loop: false })?;
-                check_all(alloc, names, &inner, parts)
-            }
-            Role::LooseName => {
-                let inner = begun_within(alloc, place, name)?;
-                check_all(alloc, names, &inner, parts)
-            }
-            Role::Changed => check_all(alloc, names, place, parts),
-            Role::Turned => check_all(alloc, names, place, parts),
-            Role::Operand => check_all(alloc, names, place, parts),
-            Role::IndexName => check_all(alloc, names, place, parts),
-            Role::AddedName => check_all(alloc, names, place, parts),
-            Role::Other => check_all(alloc, names, place, parts),
-        },
-        None => check_all(alloc, names, place, parts),
+    let mut left = from;
+    for part in parts {
+        let found = if left > 0 {
+            check(alloc, names, outer, part)?
+        } else {
+            check(alloc, names, inner, part)?
+        };
+        if found.is_some() {
+            return Ok(found);
+        }
+        left = left.saturating_sub(1);
+    }
+    Ok(None)
+}
+
+/// The place within a form, where it is another one.
+fn within(alloc: Global, place: &Place, role: Role, name: Option<Token>) -> Result<Option<Place>, AllocError>
+    ensures some { (tensors : List Tensor) → IfOk result (λ o. IfSome o (λ p. spec.scope_of tensors p ≡ spec.scope_within role name (spec.scope_of tensors place.now))) }
+    ensures none { (tensors : List Tensor) → IfOk result (λ o. o ≡ None → spec.scope_of tensors place.now ≡ spec.scope_within role name (spec.scope_of tensors place.now)) }
+{
+    let Some(name) = name else {
+        return Ok(None);
+    };
+    match role {
+        Role::LoopName => {
+            let inner = bound_within(alloc, place, Bound { name, is_loop: true })?;
+            Ok(Some(inner))
+        }
+        Role::LetName => {
+            let inner = bound_within(alloc, place, Bound { name, is_loop: false })?;
+            Ok(Some(inner))
+        }
+        Role::LooseName => {
+            let inner = begun_within(alloc, place, name)?;
+            Ok(Some(inner))
+        }
+        Role::Changed => Ok(None),
+        Role::Turned => Ok(None),
+        Role::Operand => Ok(None),
+        Role::IndexName => Ok(None),
+        Role::AddedName => Ok(None),
+        Role::Other => Ok(None),
     }
 }
 

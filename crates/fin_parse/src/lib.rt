@@ -6,6 +6,7 @@ mod class;
 mod counts;
 mod cursor;
 mod grammar;
+mod heads;
 mod names;
 mod reader;
 mod roles;
