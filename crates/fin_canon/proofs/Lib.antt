@@ -1,9 +1,13 @@
 pub mod Canonical
+pub mod Cutting
 pub mod Fewer
 pub mod Form
+pub mod Grouping
 pub mod Kept
 pub mod Placed
 pub mod Positions
+pub mod Reading
+pub mod Rising
 pub mod Standing
 pub mod Unique
 pub mod Valid
