@@ -8,6 +8,8 @@ pub mod Placed
 pub mod Positions
 pub mod Reading
 pub mod Rising
+pub mod Running
+pub mod Spanning
 pub mod Standing
 pub mod Unique
 pub mod Valid

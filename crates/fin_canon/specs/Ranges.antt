@@ -24,6 +24,15 @@ pub record Fits (es : List Entry) (d n : ℕ) (r : Range) : Type 0 where
   pub below : (k : ℕ) → r.from ≤ k → k < r.to → head_of es d k < n
   pub rise : (j k : ℕ) → r.from ≤ j → j ≤ k → k < r.to → head_of es d j ≤ head_of es d k
 
+-- the coordinates at that depth rise
+abbrev pub IsStrict : List Entry → ℕ → Range → Type 0
+IsStrict es d r = (j k : ℕ) → r.from ≤ j → j < k → k < r.to → head_of es d j < head_of es d k
+
+-- the entries may be read by a level of that kind: by a runs level where each has a coordinate of its own
+pub record FitsLevel (l : Level) (es : List Entry) (d n : ℕ) (r : Range) : Type 0 where
+  pub fits : Fits es d n r
+  pub strict : l ≡ level.Runs → IsStrict es d r
+
 -- one list of numbers is before another of its length
 abbrev pub IsBefore : List ℕ → List ℕ → Type 0
 IsBefore [] cs = ⊥

@@ -4,9 +4,11 @@
 //! its form. That of the function of a storage is valid in the storage's format.
 #![tactic(auto)]
 
+mod blocks;
 mod cuts;
 mod entry;
 mod groups;
 mod laws;
+mod runs;
 
 pub use laws::{canonical_is_unique, canonical_is_valid, canonical_stands, canonical_stays_valid};
