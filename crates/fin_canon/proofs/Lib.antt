@@ -4,6 +4,8 @@ pub mod Fewer
 pub mod Form
 pub mod Grouping
 pub mod Kept
+pub mod Making
+pub mod Naming
 pub mod Placed
 pub mod Positions
 pub mod Reading
@@ -11,5 +13,6 @@ pub mod Rising
 pub mod Running
 pub mod Spanning
 pub mod Standing
+pub mod Storing
 pub mod Unique
 pub mod Valid

@@ -43,7 +43,7 @@ found_other es d b s ne =
     let z : (nat_lt s.entry b && nat_eq (head_of es d s.entry) s.at) ≡ false = ap (λ (t : Bool). nat_lt s.entry b && t) y ∙ and_false (nat_lt s.entry b) in
     rw z refl
 
-nothing_left : (cs : List ℕ) → IsTrue (is_in_box [] cs) → cs ≡ []
+pub nothing_left : (cs : List ℕ) → IsTrue (is_in_box [] cs) → cs ≡ []
 nothing_left [] h = refl
 nothing_left (c ∷ cs) h = cc
 

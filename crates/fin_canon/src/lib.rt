@@ -9,6 +9,8 @@ mod cuts;
 mod entry;
 mod groups;
 mod laws;
+mod levels;
+mod lists;
 mod runs;
 
 pub use laws::{canonical_is_unique, canonical_is_valid, canonical_stands, canonical_stays_valid};
