@@ -1,10 +1,9 @@
 -- Groups of entries are the kept coordinates of a list level.
-use Rattle.std.proofs.Common.{◌≡◌, ◌≢◌, ℕ, zero, suc, ◌+◌, ◌<◌, ◌≤◌, List, [], ◌∷◌, ◌++◌, length, drop, get_or, refl, sym, ap, ◌∙◌, subst, inl, inr, ◌⊎◌, ⊎_elim, arith, ℤ, IsTrue, Bool, true, false}
+use Rattle.std.proofs.Common.{◌≡◌, ◌≢◌, ℕ, ◌+◌, ◌<◌, ◌≤◌, List, [], ◌∷◌, ◌++◌, length, drop, refl, sym, ap, ◌∙◌, subst, inl, inr, ◌⊎◌, ⊎_elim, arith, ℤ, IsTrue, true, false}
 use Rattle.std.specs.Prelude.{slice_index, filter, not}
 use Rattle.std.specs.List.{range_with_len}
 use Rattle.std.specs.Ordering.{int_eq}
 use Rattle.std.proofs.lemmas.Bool.{cases_lt}
-use Rattle.std.proofs.lemmas.Bool.Decides.{Decides-int_eq}
 use Rattle.std.proofs.lemmas.Int.{ints}
 use Rattle.std.proofs.lemmas.List.{append-nil, get_or_append_left, get_or_at, length_push}
 use Rattle.std.proofs.Common.{append_assoc}
@@ -13,7 +12,7 @@ use Rattle.fin_tensor.specs.declared.format.Level.TheVariants as level
 use Rattle.fin_tensor.specs.Canon.{Slice, slice_at, is_fill_at, has_value, kept}
 use Rattle.fin_canon.specs.declared.entry.Range.{Range}
 use Rattle.fin_canon.specs.Entries.{Entry, coords, word_of}
-use Rattle.fin_canon.specs.Ranges.{head_of, range_at, IsCut, IsGroup, IsBefore, Tells, Keeps, Added}
+use Rattle.fin_canon.specs.Ranges.{head_of, range_at, IsCut, IsGroup, IsBefore, Tells, Added}
 use Rattle.fin_canon.proofs.Kept.{IsRising, Place, filter_rising, filter_has, blank}
 use Rattle.fin_canon.proofs.Rising.{same_rising, filter_sound, all_fill, all_box, split_entry, place_or_not}
 

@@ -1,4 +1,6 @@
+pub mod Below
 pub mod Canonical
+pub mod Counting
 pub mod Cutting
 pub mod Fewer
 pub mod Form
@@ -14,5 +16,7 @@ pub mod Running
 pub mod Spanning
 pub mod Standing
 pub mod Storing
+pub mod Tallying
 pub mod Unique
 pub mod Valid
+pub mod Whole

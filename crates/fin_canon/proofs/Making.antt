@@ -1,5 +1,5 @@
 -- What one level of a canonical storage is made of.
-use Rattle.std.proofs.Common.{◌≡◌, ℕ, zero, suc, ◌+◌, ◌<◌, ◌≤◌, List, [], ◌∷◌, ◌++◌, length, length-append, take, get_or, refl, sym, ap, ◌∙◌, subst, ⊎_elim, arith, append_assoc, ℤ, map}
+use Rattle.std.proofs.Common.{◌≡◌, ℕ, zero, suc, ◌+◌, ◌<◌, ◌≤◌, List, [], ◌∷◌, ◌++◌, length, length-append, take, get_or, refl, sym, ap, ◌∙◌, subst, arith, ℤ, map}
 use Rattle.std.specs.Prelude.{slice_index, flat_map}
 use Rattle.std.proofs.lemmas.List.{append-nil, take_more, take_all, map-append}
 use Rattle.std.proofs.lemmas.List.Concat.{flat_map-append}
@@ -12,7 +12,7 @@ use Rattle.fin_tensor.specs.Canon.{Slice, slice_at, kept, next, starts, part_of}
 use Rattle.std.specs.List.{range_with_len}
 use Rattle.fin_canon.specs.declared.entry.Range.{Range}
 use Rattle.fin_canon.specs.Entries.{Entry}
-use Rattle.fin_canon.specs.Ranges.{range_at, IsCut, AllCut, Keeps, Added, Tells, Told, AllTold, numbers_for, part_by, MakesLevel}
+use Rattle.fin_canon.specs.Ranges.{range_at, IsCut, AllCut, Added, Told, AllTold, numbers_for, part_by, MakesLevel}
 use Rattle.fin_canon.proofs.Standing.{nth, next_length, kept_push}
 use Rattle.fin_canon.proofs.Reading.{same_range}
 use Rattle.fin_canon.proofs.Grouping.{cut_tells}

@@ -1,5 +1,5 @@
 -- The runs of a slice are what a runs level keeps.
-use Rattle.std.proofs.Common.{◌≡◌, ◌≢◌, ℕ, zero, suc, ◌+◌, ◌-◌, ◌<◌, ◌≤◌, List, [], ◌∷◌, ◌++◌, length, drop, refl, sym, ap, ◌∙◌, subst, inl, inr, ◌⊎◌, ⊎_elim, arith, append_assoc, ℤ, IsTrue, Bool, true, false, map, Option, Some, None, cond}
+use Rattle.std.proofs.Common.{◌≡◌, ◌≢◌, ℕ, ◌+◌, ◌-◌, ◌<◌, ◌≤◌, List, [], ◌∷◌, ◌++◌, length, drop, refl, sym, ap, ◌∙◌, subst, inl, inr, ◌⊎◌, ⊎_elim, arith, append_assoc, ℤ, IsTrue, Bool, true, false, map, Option, Some, None}
 use Rattle.std.specs.Prelude.{slice_index, nat_lt, nat_eq, ◌&&◌, ◌||◌, not, filter}
 use Rattle.std.specs.List.{range_with_len}
 use Rattle.std.specs.Ordering.{int_eq}
@@ -10,7 +10,7 @@ use Rattle.std.proofs.lemmas.List.{append-nil, get_or_append_left, get_or_at, le
 use Rattle.fin_tensor.specs.TensorFunction.{is_in_box}
 use Rattle.fin_tensor.specs.Levels.{below}
 use Rattle.fin_tensor.specs.declared.format.Level.TheVariants as level
-use Rattle.fin_tensor.specs.Canon.{Slice, ends_run, kept}
+use Rattle.fin_tensor.specs.Canon.{Slice, ends_run}
 use Rattle.fin_canon.specs.declared.entry.Range.{Range}
 use Rattle.fin_canon.specs.declared.runs.Spot.{Spot}
 use Rattle.fin_canon.specs.declared.runs.Run.{Run}
@@ -245,7 +245,7 @@ differ v w ne = elim (int_eq v w) as (λ z. int_eq v w ≡ z → not z ≡ true)
   | false ↦ λ _. refl
 ] refl
 
-agree : (v w : ℤ) → v ≡ w → not (int_eq v w) ≡ false
+pub agree : (v w : ℤ) → v ≡ w → not (int_eq v w) ≡ false
 agree v w e = let x : int_eq v w ≡ true = grind (arith, ints) in ap not x
 
 or_true : (t : Bool) → (t || true) ≡ true

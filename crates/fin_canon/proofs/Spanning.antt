@@ -1,5 +1,5 @@
 -- The block of a slice is what a band level keeps.
-use Rattle.std.proofs.Common.{◌≡◌, ◌≢◌, ℕ, suc, ◌+◌, ◌-◌, ◌<◌, ◌≤◌, List, [], ◌∷◌, ◌++◌, length, refl, sym, ap, ◌∙◌, subst, ⊎_elim, arith, ℤ, Bool, true, false}
+use Rattle.std.proofs.Common.{◌≡◌, ◌≢◌, ℕ, ◌+◌, ◌-◌, ◌<◌, ◌≤◌, List, [], ◌∷◌, ◌++◌, length, refl, sym, ap, ◌∙◌, subst, ⊎_elim, arith, ℤ, true, false}
 use Rattle.std.specs.Prelude.{slice_index, filter}
 use Rattle.std.specs.List.{range_with_len}
 use Rattle.std.proofs.lemmas.Bool.{cases_lt}
@@ -16,7 +16,7 @@ use Rattle.fin_canon.proofs.Standing.{rising_lt, last_is}
 use Rattle.fin_canon.proofs.Grouping.{has_at, blank_at, below_extent}
 
 -- a list that rises from low to high, both in it, spans what lies between them
-spans : (b low high : ℕ) (ks : List ℕ) → IsRising 0 b ks → Place ks low → Place ks high → ((i : ℕ) → Place ks i → (low ≤ i) × (i ≤ high)) → span_of ks ≡ range_with_len low (high + 1 - low)
+pub spans : (b low high : ℕ) (ks : List ℕ) → IsRising 0 b ks → Place ks low → Place ks high → ((i : ℕ) → Place ks i → (low ≤ i) × (i ≤ high)) → span_of ks ≡ range_with_len low (high + 1 - low)
 spans b low high [] r p q between = absurd (omega (arith, p.within))
 spans b low high (x ∷ xs) r p q between =
     let first = between x (record { j = 0; within = omega arith; is = refl }) in

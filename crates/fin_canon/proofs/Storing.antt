@@ -1,5 +1,5 @@
 -- The canonical storage, level after level.
-use Rattle.std.proofs.Common.{◌≡◌, ℕ, zero, suc, ◌+◌, ◌<◌, ◌≤◌, List, [], ◌∷◌, ◌++◌, length, drop, get_or, refl, sym, ap, ◌∙◌, subst, inl, inr, ◌⊎◌, ⊎_elim, arith, append_assoc, ℤ, map, IsTrue, Bool, true, false, cond}
+use Rattle.std.proofs.Common.{◌≡◌, ℕ, ◌+◌, ◌<◌, ◌≤◌, List, [], ◌∷◌, ◌++◌, length, drop, refl, sym, ap, ◌∙◌, subst, inl, inr, ⊎_elim, arith, append_assoc, ℤ, map, Bool, true, false, cond}
 use Rattle.std.specs.Prelude.{slice_index, slice_index_or, nat_lt}
 use Rattle.std.proofs.lemmas.Bool.{cases_lt, lt-ltb}
 use Rattle.std.proofs.lemmas.Bool.Decides.{nat_tests}
@@ -11,7 +11,7 @@ use Rattle.fin_tensor.specs.Placement.{RunsStandLast}
 use Rattle.fin_tensor.specs.Canon.{Slice, kept, next, canon_parts, canon_values}
 use Rattle.fin_canon.specs.declared.entry.Range.{Range}
 use Rattle.fin_canon.specs.Entries.{Entry, coords, word_of}
-use Rattle.fin_canon.specs.Ranges.{head_of, range_at, IsBefore, IsStrict, FitsLevel, Tells, Told, AllTold, MakesLevel, value_of}
+use Rattle.fin_canon.specs.Ranges.{head_of, range_at, IsBefore, FitsLevel, Tells, Told, AllTold, MakesLevel, value_of}
 use Rattle.fin_canon.proofs.Rising.{split_entry}
 use Rattle.fin_canon.proofs.Grouping.{below_extent}
 use Rattle.fin_canon.proofs.Running.{nothing_left}
@@ -48,7 +48,7 @@ module _ (es : List Entry) (fill : ℤ) where
       let o : IsBefore (head_of es d j ∷ []) (head_of es d k ∷ drop (d + 1) (coords es k)) = subst (λ (l : List ℕ). IsBefore (head_of es d j ∷ l) (head_of es d k ∷ drop (d + 1) (coords es k))) e (subst (λ (l : List ℕ). IsBefore (head_of es d j ∷ drop (d + 1) (coords es j)) l) q.1 (subst (λ (l : List ℕ). IsBefore l (drop d (coords es k))) p.1 (t.before j k x y z))) in
       ⊎_elim (λ (l : head_of es d j < head_of es d k). l) (λ (l : (head_of es d j ≡ head_of es d k) × ⊥). absurd l.1) o
 
-  told_fits_one : (l : Level) (n : ℕ) (ns : List ℕ) (d : ℕ) (f : Slice) (r : Range) → (l ≡ level.Runs → ns ≡ []) → Told es fill (n ∷ ns) d f r → FitsLevel l es d n r
+  pub told_fits_one : (l : Level) (n : ℕ) (ns : List ℕ) (d : ℕ) (f : Slice) (r : Range) → (l ≡ level.Runs → ns ≡ []) → Told es fill (n ∷ ns) d f r → FitsLevel l es d n r
   told_fits_one l n ns d f r last t =
       let rise = tells_rise es fill n ns d r.from r.to f t.tells in
       record {

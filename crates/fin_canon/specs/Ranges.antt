@@ -5,7 +5,7 @@ use Rattle.fin_tensor.specs.declared.format.Level.TheVariants as level
 use Rattle.fin_tensor.specs.declared.part.Part.{Part}
 use Rattle.fin_tensor.specs.declared.part.Part.TheVariants as part
 use Rattle.fin_tensor.specs.TensorFunction.{is_in_box}
-use Rattle.fin_tensor.specs.Canon.{Slice, slice_at, kept, next, part_of}
+use Rattle.fin_tensor.specs.Canon.{Slice, kept, next, part_of}
 use Rattle.fin_canon.specs.declared.entry.Range.{Range}
 use Rattle.fin_canon.specs.Entries.{Entry, coords, word_of}
 

@@ -1,11 +1,10 @@
 -- Runs of equal values in a slice of one dimension.
-use Rattle.std.specs.Prelude.{◌≡◌, ◌≢◌, ℕ, ◌+◌, ◌-◌, ◌<◌, ◌≤◌, List, [], ◌∷◌, ℤ, Option, Some, None, nat_lt, nat_eq, ◌&&◌, if◌then◌else◌}
+use Rattle.std.specs.Prelude.{◌≡◌, ◌≢◌, ℕ, ◌-◌, ◌<◌, ◌≤◌, List, [], ◌∷◌, ℤ, Option, Some, None, nat_lt, nat_eq, ◌&&◌, if◌then◌else◌}
 use Rattle.fin_tensor.specs.Levels.{below}
 use Rattle.fin_tensor.specs.Canon.{Slice}
 use Rattle.fin_canon.specs.declared.runs.Spot.{Spot}
 use Rattle.fin_canon.specs.declared.runs.Run.{Run}
 use Rattle.fin_canon.specs.Entries.{Entry, word_of}
-use Rattle.fin_canon.specs.declared.entry.Range.{Range}
 use Rattle.fin_canon.specs.Ranges.{head_of, IsCut, Tells}
 
 -- the entries a..b before that entry lie before the coordinate, and no other does

@@ -1,6 +1,6 @@
-use Rattle.std.proofs.Common.{◌≡◌, ◌∙◌, ◌+◌, ◌-◌, ◌++◌, ◌∷◌, [], ℕ, ap, sym, arith}
+use Rattle.std.proofs.Common.{◌≡◌, ◌+◌, ◌-◌, ℕ, ap, arith}
 use Rattle.fin_canon.specs.Ranges.{head_of}
-use Rattle.fin_canon.proofs.Spanning.{block_none, block_order, block_all}
+use Rattle.fin_canon.proofs.Spanning.{block_none, block_all}
 use Rattle.fin_canon.proofs.blocks.add_block.Goals as goal
 
 pub returns-then-first-slice : goal.returns-then-first-slice

@@ -1,4 +1,4 @@
-use Rattle.std.proofs.Common.{◌≡◌, ◌-◌, ◌<◌, ◌≤◌, ℕ}
+use Rattle.std.proofs.Common.{◌≡◌, ◌<◌, ◌≤◌, ℕ}
 use Rattle.fin_canon.specs.Entries.{word_of}
 use Rattle.fin_canon.proofs.blocks.kept_end.Given as goal
 

@@ -1,4 +1,4 @@
-use Rattle.std.proofs.Common.{◌≡◌, ◌-◌, ℕ, sym, subst, arith}
+use Rattle.std.proofs.Common.{◌≡◌, ◌-◌, sym, subst, arith}
 use Rattle.fin_tensor.specs.declared.format.Level.{Level}
 use Rattle.fin_canon.specs.Ranges.{Added}
 use Rattle.fin_canon.proofs.Making.{dense_all, dict_by}

@@ -1,7 +1,7 @@
 use Rattle.std.proofs.Common.{◌∙◌, ◌++◌, ◌∷◌, [], ℕ, ap}
 use Rattle.std.proofs.lemmas.List.{get_or_default}
 use Rattle.fin_canon.specs.Ranges.{range_at}
-use Rattle.fin_canon.proofs.Making.{level_none, level_more, level_all}
+use Rattle.fin_canon.proofs.Making.{level_more, level_all}
 use Rattle.fin_canon.proofs.levels.make_level.Goals as goal
 
 pub loop-r-preserved : goal.loop-r-preserved

@@ -1,5 +1,5 @@
-use Rattle.std.proofs.Common.{sym, arith}
-use Rattle.fin_canon.proofs.Running.{step_more, run_ends, run_at_end}
+use Rattle.std.proofs.Common.{arith}
+use Rattle.fin_canon.proofs.Running.{step_more, run_ends}
 use Rattle.fin_canon.proofs.runs.run_from.Goals as goal
 
 pub loop-run-init : goal.loop-run-init
