@@ -13,6 +13,7 @@ mod modes;
 mod outcome;
 mod top;
 
+pub use fin_words::asks_workers;
 pub use memory::finch_in_memory;
 pub use top::{finch, finch_one};
 
