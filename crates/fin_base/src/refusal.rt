@@ -88,10 +88,12 @@ pub enum Rule {
     W1,
 }
 
-/// The rule that is broken, and the line of the job where it is, from 1 on; 0 where it is no line's.
+/// Which rule a job breaks, and where.
 #[derive(Clone, Copy, Debug, PartialEq, Eq)]
 pub struct Refusal {
+    /// The rule that is broken.
     pub rule: Rule,
+    /// The line of the job where it is, from 1 on; 0 where it is no line's.
     pub line: u32,
 }
 

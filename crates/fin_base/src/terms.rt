@@ -5,19 +5,33 @@ use crate::reduce::Reduce;
 /// difference.
 #[derive(Clone, Copy, Debug, PartialEq, Eq)]
 pub enum Op {
+    /// `+`
     Add,
+    /// `-`
     Sub,
+    /// `*`
     Mul,
+    /// `min`
     Min,
+    /// `max`
     Max,
+    /// `and`
     And,
+    /// `or`
     Or,
+    /// `xor`
     Xor,
+    /// `<`
     Lt,
+    /// `<=`
     Le,
+    /// `>`
     Gt,
+    /// `>=`
     Ge,
+    /// `==`
     Eq,
+    /// `!=`
     Ne,
 }
 
@@ -45,10 +59,13 @@ pub enum Way {
     Shard,
 }
 
-/// A tensor that a parallel loop updates: its number, the way, and the reduction.
+/// A tensor that a parallel loop updates.
 #[derive(Clone, Copy, Debug, PartialEq, Eq)]
 pub struct Updated {
+    /// The tensor, by the place of its header.
     pub tensor: u8,
+    /// How the chunks share it.
     pub way: Way,
+    /// What each update does.
     pub by: Reduce,
 }

@@ -6,7 +6,7 @@ ghost use Rattle.fin_ports.specs.Moments.{at_most_itself, fills_again, stays_aga
 use crate::{Failed, Sink, Source};
 use std::alloc::{AllocError, Global};
 
-/// Gives the bytes of a list, at most so many a call. The calls of these numbers, from 0, fail.
+/// A source in memory: the bytes of a list, at most so many a call.
 #[derive(Drop)]
 pub struct MemSource {
     pub(crate) bytes: Vec<u8>,
@@ -20,6 +20,7 @@ pub struct MemSource {
 }
 
 impl MemSource {
+    /// Gives `bytes`, at most `most` a call. The calls whose numbers, from 0, stand in `fails` fail.
     pub fn new(bytes: Vec<u8>, most: usize, fails: Vec<u64>) -> MemSource
         requires { 0 < most }
         ensures left { ⟦<MemSource as Source>⟧.left result ≡ Some bytes.items }
@@ -68,7 +69,7 @@ fn is_among(fails: &Vec<u64>, call: u64) -> bool
     fails.contains(&call)
 }
 
-/// Takes bytes up to its room, at most so many a call. The calls of these numbers, from 0, fail.
+/// A sink in memory, with room for so many bytes. It takes at most so many a call.
 #[derive(Drop)]
 pub struct MemSink {
     pub(crate) taken: Vec<u8>,
@@ -83,6 +84,8 @@ pub struct MemSink {
 }
 
 impl MemSink {
+    /// Room for `room` bytes is taken at once, so only this call can want memory. Each put takes at most `most`
+    /// bytes. The calls whose numbers, from 0, stand in `fails` fail, and so does a put of some bytes without room.
     pub fn new(
         alloc: Global,
         room: usize,
@@ -103,7 +106,7 @@ impl MemSink {
         })
     }
 
-    /// What it took.
+    /// The bytes that it took.
     pub fn taken(&self) -> &[u8]
         ensures { ⟦<MemSink as Sink>⟧.taken self.now ≡ Some result.now }
     {

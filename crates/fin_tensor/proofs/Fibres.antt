@@ -58,7 +58,7 @@ first_place xs key from to h =
     subst (λ (x : ℕ). IsFirst xs key from x (first_from xs key from (to - from))) e (first_down xs key from (to - from))
 
 -- the last of the fibres ends at the end
-rises_by : (ptr : List ℕ) (count p d : ℕ) → ((q : ℕ) → q < count → slice_index ptr q ≤ slice_index ptr (q + 1)) → p + d ≤ count → slice_index ptr p ≤ slice_index ptr (p + d)
+pub rises_by : (ptr : List ℕ) (count p d : ℕ) → ((q : ℕ) → q < count → slice_index ptr q ≤ slice_index ptr (q + 1)) → p + d ≤ count → slice_index ptr p ≤ slice_index ptr (p + d)
 rises_by ptr count p zero h le = let e : p ≡ p + 0 = omega arith in subst (λ (x : ℕ). slice_index ptr p ≤ slice_index ptr x) e (omega arith)
 rises_by ptr count p (suc d) h le =
     let e : (p + d) + 1 ≡ p + suc d = omega arith in

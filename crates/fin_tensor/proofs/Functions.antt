@@ -126,13 +126,17 @@ tied_are_same ds cs e = elim (slice_cmp nat_cmp ds cs) as (λ r. slice_cmp nat_c
   | Greater ↦ λ _ h. cc
 ] refl e
 
-pub keeps_tensors : KeepsTensors
-keeps_tensors f cs v h within word ds =
+-- a value that is the fill need be no word
+pub keeps_tensors_by : (f : TensorFunction) (cs : List ℕ) (v : ℤ) → IsTensor f → IsTrue (is_in_box f.shape cs) → (v ≢ f.fill → FitsSigned w64 v) → IsTensor (with_value f cs v)
+keeps_tensors_by f cs v h within word ds =
     elim (int_eq v f.fill) as (λ b. int_eq v f.fill ≡ b → IfSome (get (if b then remove f.cells cs else insert f.cells cs v) ds) (IsEntry f.shape f.fill ds)) [
       | true ↦ λ e. subst (λ (o : Option ℤ). IfSome o (IsEntry f.shape f.fill ds)) (sym (get-remove nat_list_cmp_total f.cells cs ds)) (kept_without f cs ds (tests ds cs) (h ds))
       | false ↦ λ e. subst (λ (o : Option ℤ). IfSome o (IsEntry f.shape f.fill ds)) (sym (get-insert nat_list_cmp_total f.cells cs v ds))
-          (kept_with f cs ds v (tests ds cs) (λ t. record { inside = subst (λ (x : List ℕ). IsTrue (is_in_box f.shape x)) (sym (tied_are_same ds cs t)) within; other = differs v f.fill e; word = word }) (h ds))
+          (kept_with f cs ds v (tests ds cs) (λ t. record { inside = subst (λ (x : List ℕ). IsTrue (is_in_box f.shape x)) (sym (tied_are_same ds cs t)) within; other = differs v f.fill e; word = word (differs v f.fill e) }) (h ds))
     ] refl
+
+pub keeps_tensors : KeepsTensors
+keeps_tensors f cs v h within word = keeps_tensors_by f cs v h within (λ _. word)
 
 pub empty_is : (shape : List ℕ) (fill : ℤ) (es : List (List ℕ × ℤ)) → es ≡ [] → IsTensor (record { shape = shape; fill = fill; cells = from_entries es })
 empty_is shape fill es e cs =
@@ -140,3 +144,27 @@ empty_is shape fill es e cs =
 
 pub still_is : (f g : TensorFunction) (cs : List ℕ) (v : ℤ) → IsTensor f → IsTrue (is_in_box f.shape cs) → FitsSigned w64 v → g ≡ with_value f cs v → IsTensor g
 still_is f g cs v h within word e = subst (λ (t : TensorFunction). IsTensor t) (sym e) (keeps_tensors f cs v h within word)
+
+-- ---- what lies outside the box
+outside_by : (shape : List ℕ) (fill : ℤ) (cs : List ℕ) (o : Option ℤ) → IfSome o (IsEntry shape fill cs) → is_in_box shape cs ≡ false → unwrap_or o fill ≡ fill
+outside_by shape fill cs None h out = refl
+outside_by shape fill cs (Some v) h out = let x : true ≡ false = sym h.inside ∙ out in cc
+
+pub outside : (f : TensorFunction) (cs : List ℕ) → IsTensor f → is_in_box f.shape cs ≡ false → value_at f cs ≡ f.fill
+outside f cs h out = outside_by f.shape f.fill cs (get f.cells cs) (h cs) out
+
+-- functions that agree in shape, fill and inside the box are equal
+pub agreeing_inside_are_equal : (f g : TensorFunction) → IsTensor f → IsTensor g → f.shape ≡ g.shape → f.fill ≡ g.fill → ((cs : List ℕ) → IsTrue (is_in_box f.shape cs) → value_at f cs ≡ value_at g cs) → f ≡ g
+agreeing_inside_are_equal f g p q es ef h = agreeing_are_equal f g p q es ef (λ cs.
+    elim (is_in_box f.shape cs) as (λ b. is_in_box f.shape cs ≡ b → value_at f cs ≡ value_at g cs) [
+      | true ↦ λ within. h cs within
+      | false ↦ λ out. outside f cs p out ∙ ef ∙ sym (outside g cs q (ap (λ (ns : List ℕ). is_in_box ns cs) (sym es) ∙ out))
+    ] refl)
+
+word_by : (shape : List ℕ) (fill : ℤ) (cs : List ℕ) (o : Option ℤ) → IfSome o (IsEntry shape fill cs) → unwrap_or o fill ≢ fill → FitsSigned w64 (unwrap_or o fill)
+word_by shape fill cs None h ne = absurd (ne refl)
+word_by shape fill cs (Some v) h ne = h.word
+
+-- a value other than the fill is a word
+pub value_is_word : (f : TensorFunction) (cs : List ℕ) → IsTensor f → value_at f cs ≢ f.fill → FitsSigned w64 (value_at f cs)
+value_is_word f cs h ne = word_by f.shape f.fill cs (get f.cells cs) (h cs) ne

@@ -9,9 +9,9 @@ use Rattle.std.specs.Prelude.{FitsSigned}
 use Rattle.std.specs.BTreeMap.{is_at}
 use Rattle.std.proofs.lemmas.Bool.{cases_eq, ltb-true, lt-ltb}
 use Rattle.fin_tensor.specs.TensorFunction.{TensorFunction, value_at, filled, with_value, IsTensor, is_in_box, box}
-use Rattle.fin_tensor.proofs.Functions.{gives_one_place, keeps_tensors, empty_is, tied_are_same, tied}
+use Rattle.fin_tensor.proofs.Functions.{gives_one_place, keeps_tensors_by, empty_is, tied_are_same, tied}
 use Rattle.fin_tensor.specs.Levels.{value_from}
-use Rattle.fin_tensor.specs.Stands.{spread, stands, TabulatedGives}
+use Rattle.fin_tensor.specs.Stands.{spread, stands, tabulated, TabulatedGives}
 use Rattle.fin_tensor.specs.declared.storage.Storage.{Storage}
 
 -- the list is one of these
@@ -75,13 +75,9 @@ in_box (n ∷ ns) [] h = cc
 in_box (n ∷ ns) (c ∷ cs) h = among_slices (box ns) 0 n c cs (omega arith) (omega (arith, ltb-true c n (left (nat_lt c n) (is_in_box ns cs) h))) (in_box ns cs (right (nat_lt c n) (is_in_box ns cs) h))
 
 -- each of these lies in the box
-abbrev AllIn : List ℕ → List (List ℕ) → Type 0
+abbrev pub AllIn : List ℕ → List (List ℕ) → Type 0
 AllIn shape [] = Unit {0}
 AllIn shape (c ∷ css) = IsTrue (is_in_box shape c) × AllIn shape css
-
-stays : (css : List (List ℕ)) (f : List ℕ → ℤ) (t : TensorFunction) → AllIn t.shape css → ((cs : List ℕ) → IsTrue (is_in_box t.shape cs) → FitsSigned w64 (f cs)) → IsTensor t → IsTensor (spread css f t)
-stays [] f t a w h = h
-stays (c ∷ css) f t a w h = stays css f (with_value t c (f c)) a.1 w (keeps_tensors t c (f c) h a.0 (w c a.0))
 
 all_append : (shape : List ℕ) (a b : List (List ℕ)) → AllIn shape a → AllIn shape b → AllIn shape (a ++ b)
 all_append shape [] b x y = y
@@ -95,14 +91,37 @@ all_slices : (n : ℕ) (ns : List ℕ) (css : List (List ℕ)) (a m : ℕ) → a
 all_slices n ns css a zero h x = tt
 all_slices n ns css a (suc m) h x = all_append (n ∷ ns) (map (λ ds. a ∷ ds) css) (flat_map (λ k. map (λ ds. k ∷ ds) css) (range_with_len (a + 1) m)) (all_map n a ns css (omega arith) x) (all_slices n ns css (a + 1) m (omega arith) x)
 
-all_box : (ns : List ℕ) → AllIn ns (box ns)
+pub all_box : (ns : List ℕ) → AllIn ns (box ns)
 all_box [] = (refl, tt)
 all_box (n ∷ ns) = all_slices n ns (box ns) 0 n (omega arith) (all_box ns)
+
+-- it has the shape and the fill
+spread_shape : (css : List (List ℕ)) (f : List ℕ → ℤ) (t : TensorFunction) → (spread css f t).shape ≡ t.shape
+spread_shape [] f t = refl
+spread_shape (cs ∷ css) f t = spread_shape css f (with_value t cs (f cs))
+
+spread_fill : (css : List (List ℕ)) (f : List ℕ → ℤ) (t : TensorFunction) → (spread css f t).fill ≡ t.fill
+spread_fill [] f t = refl
+spread_fill (cs ∷ css) f t = spread_fill css f (with_value t cs (f cs))
+
+pub tabulated_shape : (shape : List ℕ) (fill : ℤ) (f : List ℕ → ℤ) → (tabulated shape fill f).shape ≡ shape
+tabulated_shape shape fill f = spread_shape (box shape) f (filled shape fill)
+
+pub tabulated_fill : (shape : List ℕ) (fill : ℤ) (f : List ℕ → ℤ) → (tabulated shape fill f).fill ≡ fill
+tabulated_fill shape fill f = spread_fill (box shape) f (filled shape fill)
+
+-- it is a tensor function where each value other than the fill is a word
+spread_is_tensor : (css : List (List ℕ)) (f : List ℕ → ℤ) (t : TensorFunction) → AllIn t.shape css → ((cs : List ℕ) → IsTrue (is_in_box t.shape cs) → f cs ≢ t.fill → FitsSigned w64 (f cs)) → IsTensor t → IsTensor (spread css f t)
+spread_is_tensor [] f t a w h = h
+spread_is_tensor (c ∷ css) f t a w h = spread_is_tensor css f (with_value t c (f c)) a.1 w (keeps_tensors_by t c (f c) h a.0 (w c a.0))
+
+pub tabulated_is_tensor : (shape : List ℕ) (fill : ℤ) (f : List ℕ → ℤ) → ((cs : List ℕ) → IsTrue (is_in_box shape cs) → f cs ≢ fill → FitsSigned w64 (f cs)) → IsTensor (tabulated shape fill f)
+tabulated_is_tensor shape fill f w = spread_is_tensor (box shape) f (filled shape fill) (all_box shape) w (empty_is shape fill [] refl)
 
 pub tabulated_gives : TabulatedGives
 tabulated_gives shape fill f = (
   λ cs h. given (box shape) f (filled shape fill) cs (inl (in_box shape cs h)),
-  λ w. stays (box shape) f (filled shape fill) (all_box shape) w (empty_is shape fill [] refl),
+  λ w. tabulated_is_tensor shape fill f (λ cs h _. w cs h),
 )
 
 -- the value of what a storage stands for, by its levels

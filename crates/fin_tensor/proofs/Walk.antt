@@ -1,5 +1,5 @@
 -- The walk down the levels.
-use Rattle.std.proofs.Common.{◌≡◌, ℕ, zero, suc, ◌+◌, ◌-◌, ◌^◌, ◌<◌, ◌≤◌, List, [], ◌∷◌, length, length-drop, drop, drop-cons, refl, sym, ap, subst, ⊎_elim, arith, cond, ℤ, IsTrue}
+use Rattle.std.proofs.Common.{◌≡◌, ℕ, zero, suc, ◌+◌, ◌-◌, ◌^◌, ◌<◌, ◌≤◌, List, [], ◌∷◌, ◌++◌, length, length-drop, drop, drop-cons, refl, sym, ap, subst, ⊎_elim, arith, cond, ℤ, IsTrue}
 use Rattle.std.specs.Prelude.{slice_index, slice_index_or, slice_get, nat_lt, nat_eq, true, false, Bool, ◌&&◌, Some, None, IfSome, if◌then◌else◌}
 use Rattle.std.proofs.lemmas.Bool.{cases_lt, ltb-true}
 use Rattle.std.proofs.lemmas.Nat.{mul-add-lt}
@@ -27,6 +27,26 @@ stored_lengths count [] [] (p ∷ ps) val h = absurd h
 stored_lengths count [] (n ∷ ns) ps val h = absurd h
 stored_lengths count (l ∷ ls) [] ps val h = absurd h
 stored_lengths count (l ∷ ls) (n ∷ ns) [] val h = absurd h
+
+pub stored_levels : (count : ℕ) (ls : List Level) (ns : List ℕ) (ps : List Part) (val : List ℤ) → IsStored count ls ns ps val → length ns ≡ length ls
+stored_levels count [] [] [] val h = refl
+stored_levels count (l ∷ ls) (n ∷ ns) (p ∷ ps) val h = ap suc (stored_levels (positions n count p) ls ns ps val h.3)
+stored_levels count [] [] (p ∷ ps) val h = absurd h
+stored_levels count [] (n ∷ ns) ps val h = absurd h
+stored_levels count (l ∷ ls) [] ps val h = absurd h
+stored_levels count (l ∷ ls) (n ∷ ns) [] val h = absurd h
+
+small_cons : (n : ℕ) (ns : List ℕ) → n ≤ 2 ^ 40 → AreSmall ns → AreSmall (n ∷ ns)
+small_cons n ns h r zero lt = h
+small_cons n ns h r (suc k) lt = r k (omega arith)
+
+pub stored_extents : (count : ℕ) (ls : List Level) (ns : List ℕ) (ps : List Part) (val : List ℤ) → IsStored count ls ns ps val → AreSmall ns
+stored_extents count [] [] [] val h = λ k lt. absurd (omega arith)
+stored_extents count (l ∷ ls) (n ∷ ns) (p ∷ ps) val h = small_cons n ns h.1 (stored_extents (positions n count p) ls ns ps val h.3)
+stored_extents count [] [] (p ∷ ps) val h = absurd h
+stored_extents count [] (n ∷ ns) ps val h = absurd h
+stored_extents count (l ∷ ls) [] ps val h = absurd h
+stored_extents count (l ∷ ls) (n ∷ ns) [] val h = absurd h
 
 -- a position of level k
 pub level_at : (k count : ℕ) (ls : List Level) (ns : List ℕ) (ps : List Part) (val : List ℤ) (pos : ℕ) → IsStored count ls ns ps val → k < length ps → pos < fibres ns ps count k → IsAt (slice_index ns k) (slice_index_or ps k part.Dense) pos
@@ -85,11 +105,18 @@ child_within level.Band n count (part.Band ptr start) pos i h a b = block_below 
 child_within l n count p pos i h a b = absurd h
 
 -- ---- one level further
-pub fibres_more : (k count : ℕ) (ns : List ℕ) (ps : List Part) → k < length ps → length ns ≡ length ps → fibres ns ps count (suc k) ≡ positions (slice_index ns k) (fibres ns ps count k) (slice_index_or ps k part.Dense)
+pub fibres_more : (k count : ℕ) (ns : List ℕ) (ps : List Part) → k < length ps → k < length ns → fibres ns ps count (suc k) ≡ positions (slice_index ns k) (fibres ns ps count k) (slice_index_or ps k part.Dense)
 fibres_more zero count (n ∷ ns) (p ∷ ps) h e = refl
 fibres_more (suc k) count (n ∷ ns) (p ∷ ps) h e = fibres_more k (positions n count p) ns ps (omega arith) (omega arith)
 fibres_more k count ns [] h e = absurd (omega arith)
 fibres_more k count [] (p ∷ ps) h e = absurd (omega arith)
+
+-- parts that are put last change nothing before
+pub fibres_kept : (k count : ℕ) (ns : List ℕ) (ps qs : List Part) → k ≤ length ps → fibres ns (ps ++ qs) count k ≡ fibres ns ps count k
+fibres_kept zero count ns ps qs h = refl
+fibres_kept (suc k) count (n ∷ ns) (p ∷ ps) qs h = fibres_kept k (positions n count p) ns ps qs (omega arith)
+fibres_kept (suc k) count [] (p ∷ ps) qs h = refl
+fibres_kept (suc k) count ns [] qs h = absurd (omega arith)
 
 pub kind_at : (k count : ℕ) (ls : List Level) (ns : List ℕ) (ps : List Part) (val : List ℤ) → IsStored count ls ns ps val → k < length ps → (l : Level) × IsLevel l (slice_index ns k) (fibres ns ps count k) (slice_index_or ps k part.Dense)
 kind_at zero count (l ∷ ls) (n ∷ ns) (p ∷ ps) val h lt = (l, h.2)
@@ -104,7 +131,7 @@ pub child_at_within : (k count : ℕ) (ls : List Level) (ns : List ℕ) (ps : Li
     IfSome (child_in (slice_index ns k) (slice_index_or ps k part.Dense) pos i) (λ q. q < fibres ns ps count (k + 1))
 child_at_within k count ls ns ps val pos i h lt within a =
     let kind = kind_at k count ls ns ps val h lt in
-    let e : fibres ns ps count (k + 1) ≡ positions (slice_index ns k) (fibres ns ps count k) (slice_index_or ps k part.Dense) = (let o : k + 1 ≡ suc k = omega arith in rw o (fibres_more k count ns ps lt (stored_lengths count ls ns ps val h))) in
+    let e : fibres ns ps count (k + 1) ≡ positions (slice_index ns k) (fibres ns ps count k) (slice_index_or ps k part.Dense) = (let o : k + 1 ≡ suc k = omega arith in rw o (fibres_more k count ns ps lt (omega (arith, lt, stored_lengths count ls ns ps val h)))) in
     subst (λ (m : ℕ). IfSome (child_in (slice_index ns k) (slice_index_or ps k part.Dense) pos i) (λ q. q < m)) (sym e)
     (child_within kind.0 (slice_index ns k) (fibres ns ps count k) (slice_index_or ps k part.Dense) pos i kind.1 within a)
 

@@ -1,7 +1,5 @@
 -- One level of a storage, and all of them.
 use Rattle.std.specs.Prelude.{◌≡◌, ℕ, zero, suc, ◌+◌, ◌-◌, ◌*◌, ◌^◌, ◌<◌, ◌≤◌, ◌&&◌, nat_lt, nat_eq, if◌then◌else◌, List, [], ◌∷◌, length, slice_index, slice_index_or, Option, Some, None, ℤ}
-use Rattle.std.specs.Coded.{×_prop, Unit-prop}
-use Rattle.std.proofs.Props.{props}
 use Rattle.fin_tensor.specs.declared.format.Level.{Level}
 use Rattle.fin_tensor.specs.declared.format.Level.TheVariants as level
 use Rattle.fin_tensor.specs.declared.part.Part.{Part}
@@ -134,32 +132,6 @@ abbrev pub value_from : List ℕ → List Part → List ℤ → ℤ → ℕ → 
 value_from ns [] val fill pos cs = slice_index_or val pos fill
 value_from (n ∷ ns) (p ∷ ps) val fill pos (c ∷ cs) = below (child_in n p pos c) (λ q. value_from ns ps val fill q cs) fill
 value_from ns (p ∷ ps) val fill pos cs = fill
-
--- each of these facts has one proof
-IsPtr-prop : (count : ℕ) (ptr : List ℕ) → IsProp (IsPtr count ptr)
-IsPtr-prop count ptr = hlevel props
-
-IsIdx-prop : (n count : ℕ) (ptr idx : List ℕ) → IsProp (IsIdx n count ptr idx)
-IsIdx-prop n count ptr idx = hlevel props
-
-IsStop-prop : (n count : ℕ) (ptr stop : List ℕ) → IsProp (IsStop n count ptr stop)
-IsStop-prop n count ptr stop = hlevel props
-
-IsStart-prop : (n count : ℕ) (ptr start : List ℕ) → IsProp (IsStart n count ptr start)
-IsStart-prop n count ptr start = hlevel props
-
-IsLevel-prop : (l : Level) (n count : ℕ) (p : Part) → IsProp (IsLevel l n count p)
-IsLevel-prop level.Dense n count part.Dense = Unit-prop
-IsLevel-prop level.List n count (part.Keys ptr idx) = ×_prop (IsPtr-prop count ptr) (IsIdx-prop n count ptr idx)
-IsLevel-prop level.Dict n count (part.Keys ptr idx) = ×_prop (IsPtr-prop count ptr) (IsIdx-prop n count ptr idx)
-IsLevel-prop level.Runs n count (part.Runs ptr stop) = ×_prop (IsPtr-prop count ptr) (IsStop-prop n count ptr stop)
-IsLevel-prop level.Band n count (part.Band ptr start) = ×_prop (IsPtr-prop count ptr) (IsStart-prop n count ptr start)
-IsLevel-prop l n count p = hlevel props
-
-pub IsStored-prop : (count : ℕ) (ls : List Level) (ns : List ℕ) (ps : List Part) (val : List ℤ) → IsProp (IsStored count ls ns ps val)
-IsStored-prop count [] [] [] val = hlevel props
-IsStored-prop count (l ∷ ls) (n ∷ ns) (p ∷ ps) val = hlevel (props, IsLevel-prop l n count p, IsStored-prop (positions n count p) ls ns ps val)
-IsStored-prop count ls ns ps val = hlevel props
 
 -- a position of a level
 pub record IsAt (n : ℕ) (p : Part) (pos : ℕ) : Type 0 where

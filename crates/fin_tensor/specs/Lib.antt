@@ -1,5 +1,8 @@
+pub mod Canon
 pub mod Extents
 pub mod Levels
+pub mod Lines
+pub mod OneProof
 pub mod Placement
 pub mod Stands
 pub mod TensorFunction

@@ -1,8 +1,6 @@
 -- Where levels may stand, and which decoration fits them.
 use Rattle.std.specs.Prelude.{◌≢◌, ℕ, ◌+◌, ◌<◌, ◌≤◌, IsTrue, Bool, true, false, List, length, slice_index_or}
 use Rattle.std.specs.List.{list_all}
-use Rattle.std.specs.Coded.{Unit-prop}
-use Rattle.std.proofs.Props.{props}
 use Rattle.fin_tensor.specs.declared.format.Level.{Level}
 use Rattle.fin_tensor.specs.declared.format.Level.TheVariants.{Dense, List as SortedList, Runs, Band, Dict}
 use Rattle.fin_tensor.specs.declared.format.Wrap.{Wrap}
@@ -49,19 +47,3 @@ IsBare Shard = ⊥
 -- the placement that a header's format keeps: an input has no decoration
 abbrev pub IsPlacedAs : Bool → List Level → Wrap → Type 0
 IsPlacedAs input levels wrap = IsPlaced levels wrap × (IsTrue input → IsBare wrap)
-
--- each of these facts has one proof
-Fits-prop : (wrap : Wrap) (ls : List Level) → IsProp (Fits wrap ls)
-Fits-prop Bare ls = Unit-prop
-Fits-prop Atomic ls = hlevel props
-Fits-prop (Mutex before) ls = hlevel props
-Fits-prop Shard ls = hlevel props
-
-pub IsPlaced-prop : (ls : List Level) (wrap : Wrap) → IsProp (IsPlaced ls wrap)
-IsPlaced-prop ls wrap = hlevel (props, Fits-prop wrap ls)
-
-pub IsBare-prop : (wrap : Wrap) → IsProp (IsBare wrap)
-IsBare-prop Bare = Unit-prop
-IsBare-prop Atomic = hlevel props
-IsBare-prop (Mutex before) = hlevel props
-IsBare-prop Shard = hlevel props

@@ -5,20 +5,28 @@
 #![tactic(auto)]
 
 mod coords;
+mod draft;
 mod duplicate;
 mod format;
 mod laws;
+mod lines;
 mod outputs;
 mod part;
 mod placement;
 mod places;
 mod seq;
 mod storage;
+#[cfg(test)]
+mod tests;
 
 pub use coords::Coords;
+pub use draft::Draft;
 pub use duplicate::Duplicate;
 pub use format::{Format, Level, Levels, Wrap};
-pub use laws::{agreeing_are_equal, gives_one_place, keeps_tensors, tabulated_gives};
+pub use laws::{
+    agreeing_are_equal, gives_one_place, keeps_tensors, tabulated_gives, valid_by_lines,
+};
+pub use lines::is_shape;
 pub use outputs::{Outputs, StoreFail};
 pub use part::Part;
 pub use placement::{has_small_dense_size, keeps_placement};

@@ -30,7 +30,7 @@ impl Duplicate for Outputs {
 }
 
 /// Why there is no storage.
-#[derive(Debug, Drop)]
+#[derive(Clone, Copy, Debug)]
 pub enum StoreFail {
     /// It has more than 2^40 fibres in a level, or more than 2^40 values.
     Large,

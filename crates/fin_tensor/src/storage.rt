@@ -1,7 +1,8 @@
 //! The storage of a tensor.
 ghost use Rattle.std.specs.Prelude.{◌≡◌, ◌<◌, ◌+◌, ◌-◌};
-ghost use Rattle.fin_tensor.specs.Levels.{IsStored, IsStored-prop, IsAt, IsFibre, AreSmall, wanted, child_in, fibre_from, fibre_to, numbers_of, first_from};
-ghost use Rattle.fin_tensor.specs.Placement.{IsPlaced, IsPlaced-prop, IsBare, IsBare-prop};
+ghost use Rattle.fin_tensor.specs.Levels.{IsStored, IsAt, IsFibre, AreSmall, wanted, child_in, fibre_from, fibre_to, numbers_of, first_from};
+ghost use Rattle.fin_tensor.specs.Placement.{IsPlaced, IsBare};
+ghost use Rattle.fin_tensor.specs.OneProof.{IsPlaced-prop, IsBare-prop, IsStored-prop};
 
 use crate::duplicate::Duplicate;
 use crate::format::Format;

@@ -12,10 +12,12 @@ check_parts-returns-then-is_some t c =
     let parts = c.args.parts.now in let i = c.loop-part.part-index in let u = c.part-item.result in let left = c.loop-part.left in
     let o = c.if-left-gt0.found in
     let there : true ≡ is_some o = c.if-is_some.ensures in
-    record { first = elim c.if-left-gt0.branch [
-      | check_parts-then-left-gt0+in_ok-found w ↦ outer_found f so si parts i u c.loop-part-test.true c.part-item.is left w.if-left-gt0.true o there (w.found-is ∙ w.in_ok-found.ensures.first) ∙ c.loop-part.invariant
-      | check_parts-else-left-gt0+in_ok-found-2 w ↦ inner_found f so si parts i u c.loop-part-test.true c.part-item.is left (let z = w.if-left-gt0.false in omega arith) o there (w.found-is ∙ w.in_ok-found-2.ensures.first) ∙ c.loop-part.invariant
-    ] }
+    record {
+      first = elim c.if-left-gt0.branch [
+        | check_parts-then-left-gt0+in_ok-found w ↦ outer_found f so si parts i u c.loop-part-test.true c.part-item.is left w.if-left-gt0.true o there (w.found-is ∙ w.in_ok-found.ensures.first) ∙ c.loop-part.invariant
+        | check_parts-else-left-gt0+in_ok-found-2 w ↦ inner_found f so si parts i u c.loop-part-test.true c.part-item.is left (let z = w.if-left-gt0.false in omega arith) o there (w.found-is ∙ w.in_ok-found-2.ensures.first) ∙ c.loop-part.invariant
+      ];
+    }
 
 pub check_parts-loop-part-preserved : goal.check_parts-loop-part-preserved
 check_parts-loop-part-preserved t c =

@@ -1,0 +1,36 @@
+-- What is true of canonical storages.
+use Rattle.std.specs.Prelude.{◌≡◌, ◌↔◌, length}
+use Rattle.fin_tensor.specs.declared.format.Format.{Format}
+use Rattle.fin_tensor.specs.declared.storage.Storage.{Storage}
+use Rattle.fin_tensor.specs.TensorFunction.{TensorFunction, IsTensor}
+use Rattle.fin_tensor.specs.Placement.{IsPlaced, IsBare}
+use Rattle.fin_tensor.specs.Levels.{AreSmall}
+use Rattle.fin_tensor.specs.Stands.{stands}
+use Rattle.fin_tensor.specs.Canon.{IsCanon, HasCanonicalForm, IsAllowedIn}
+
+-- the function can be kept in the format: one extent for each level, and no extent over 2^40
+pub record CanKeep (format : Format) (f : TensorFunction) : Type 0 where
+  pub placed : IsPlaced format.levels format.wrap
+  pub bare : IsBare format.wrap
+  pub fill : format.fill ≡ f.fill
+  pub long : length f.shape ≡ length format.levels
+  pub small : AreSmall f.shape
+
+-- a canonical storage stands for its function
+abbrev pub CanonicalStands : Type 0
+CanonicalStands = (format : Format) (f : TensorFunction) (s : Storage) → IsTensor f → IsCanon format f s → stands s ≡ f
+
+-- the canonical storage is valid where its size allows, and nowhere else
+abbrev pub CanonicalIsValid : Type 0
+CanonicalIsValid =
+    (format : Format) (f : TensorFunction) → (CanKeep format f → IsAllowedIn format f → (s : Storage) × IsCanon format f s)
+    × ((s : Storage) → IsCanon format f s → IsAllowedIn format f)
+
+-- it has its form, and is the only storage that has
+abbrev pub CanonicalIsUnique : Type 0
+CanonicalIsUnique =
+    (format : Format) (f : TensorFunction) (s t : Storage) → (HasCanonicalForm format f s ↔ IsCanon format f s) × (IsCanon format f s → IsCanon format f t → s ≡ t)
+
+-- the function of a storage has a canonical storage in the storage's format
+abbrev pub CanonicalStaysValid : Type 0
+CanonicalStaysValid = (s : Storage) → (t : Storage) × IsCanon s.format (stands s) t

@@ -1,0 +1,8 @@
+pub mod Comings
+pub mod Endings
+pub mod Jobs
+pub mod OneDue
+pub mod Promised
+pub mod Serving
+pub mod Turns
+pub mod Vectors

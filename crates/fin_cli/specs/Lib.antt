@@ -1,0 +1,5 @@
+pub mod Dense
+pub mod Due
+pub mod Ends
+pub mod Promises
+pub mod Stops

@@ -1,0 +1,6 @@
+use Rattle.std.proofs.Common.{◌+◌, ◌<◌, ◌≤◌, ℕ}
+use Rattle.std.specs.Prelude.{slice_index}
+use Rattle.fin_tensor.proofs.lines.is_start.Given as goal
+
+abbrev pub invariant-loop-p : goal.invariant-loop-p
+invariant-loop-p l = (q : ℕ) → q < l.p → slice_index l.start q + slice_index l.ptr (q + 1) ≤ l.extent + slice_index l.ptr q
