@@ -16,6 +16,8 @@ mod laws;
 mod levels;
 mod lists;
 mod runs;
+#[cfg(test)]
+mod tests;
 
 pub use build::store;
 pub use laws::{canonical_is_unique, canonical_is_valid, canonical_stands, canonical_stays_valid};
