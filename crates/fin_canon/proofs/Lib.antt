@@ -5,6 +5,7 @@ pub mod Cutting
 pub mod Fewer
 pub mod Form
 pub mod Grouping
+pub mod Inside
 pub mod Kept
 pub mod Making
 pub mod Naming

@@ -2,15 +2,18 @@
 use Rattle.std.proofs.Common.{◌≡◌, ◌≢◌, ℕ, zero, suc, ◌+◌, ◌<◌, ◌≤◌, List, [], ◌∷◌, length, refl, sym, ap, ◌∙◌, subst, inl, inr, ⊎_elim, arith, ℤ, IsTrue, Option}
 use Rattle.std.specs.Prelude.{nat_lt, unwrap_or}
 use Rattle.std.specs.FinMap.{get-empty}
+use Rattle.std.specs.Prelude.{FitsSigned}
+use Rattle.std.specs.Int.{w64}
 use Rattle.std.specs.Ordering.{nat_cmp, ordering_then}
 use Rattle.std.specs.declared.cmp.Ordering.{Ordering}
 use Rattle.std.specs.declared.cmp.Ordering.TheVariants.{Less, Equal, Greater}
 use Rattle.std.specs.Cmp.Lexicographic.{slice_cmp}
 use Rattle.std.proofs.lemmas.Bool.{cases_lt, cases_eq}
 use Rattle.std.specs.Cmp.{nat_cmp_is}
-use Rattle.fin_tensor.specs.TensorFunction.{TensorFunction, is_in_box, value_at, filled, with_value}
-use Rattle.fin_tensor.proofs.Functions.{gives_one_place}
+use Rattle.fin_tensor.specs.TensorFunction.{TensorFunction, IsTensor, is_in_box, value_at, filled, with_value}
+use Rattle.fin_tensor.proofs.Functions.{gives_one_place, keeps_tensors, empty_is}
 use Rattle.fin_canon.specs.Entries.{Entry, coords, word_of, AreEntries, given, named}
+use Rattle.fin_canon.specs.Laws.{NamedByEntries}
 use Rattle.fin_canon.specs.Ranges.{IsBefore, Told}
 use Rattle.fin_canon.proofs.Kept.{and_right}
 
@@ -91,3 +94,18 @@ named_told shape fill es a = record {
     before = λ j k x l y. all_before shape es a j k l y;
   };
 }
+
+given_tensor : (es : List Entry) (f : TensorFunction) → IsTensor f → ((k : ℕ) → k < length es → IsTrue (is_in_box f.shape (coords es k))) → ((k : ℕ) → k < length es → FitsSigned w64 (word_of es k)) → IsTensor (given es f)
+given_tensor [] f t inside words = t
+given_tensor (e ∷ es) f t inside words = given_tensor es (with_value f e.0 e.1) (keeps_tensors f e.0 e.1 t (inside 0 (omega arith)) (words 0 (omega arith))) (λ k l. inside (suc k) (omega arith)) (λ k l. words (suc k) (omega arith))
+
+pub named_by_entries : NamedByEntries
+named_by_entries shape fill es a =
+    let t = (named_told shape fill es a).tells in
+    record {
+      shape_is = given_shape es (filled shape fill);
+      fill_is = given_fill es (filled shape fill);
+      there = λ k l. t.hit k (omega arith) l;
+      elsewhere = λ cs out. t.miss cs (λ k x y. out k y);
+      is_tensor = λ words. given_tensor es (filled shape fill) (empty_is shape fill [] refl) a.inside words;
+    }

@@ -1,11 +1,13 @@
 -- What is true of canonical storages.
-use Rattle.std.specs.Prelude.{◌≡◌, ◌↔◌, length}
+use Rattle.std.specs.Prelude.{◌≡◌, ◌≢◌, ◌↔◌, ◌<◌, ℕ, ℤ, List, length, FitsSigned}
+use Rattle.std.specs.Int.{w64}
 use Rattle.fin_tensor.specs.declared.format.Format.{Format}
 use Rattle.fin_tensor.specs.declared.storage.Storage.{Storage}
-use Rattle.fin_tensor.specs.TensorFunction.{TensorFunction, IsTensor}
+use Rattle.fin_tensor.specs.TensorFunction.{TensorFunction, IsTensor, value_at}
 use Rattle.fin_tensor.specs.Placement.{IsPlaced, IsBare}
 use Rattle.fin_tensor.specs.Levels.{AreSmall}
 use Rattle.fin_tensor.specs.Stands.{stands}
+use Rattle.fin_canon.specs.Entries.{Entry, AreEntries, coords, word_of, named}
 use Rattle.fin_tensor.specs.Canon.{IsCanon, HasCanonicalForm, IsAllowedIn}
 
 -- the function can be kept in the format: one extent for each level, and no extent over 2^40
@@ -34,3 +36,14 @@ CanonicalIsUnique =
 -- the function of a storage has a canonical storage in the storage's format
 abbrev pub CanonicalStaysValid : Type 0
 CanonicalStaysValid = (s : Storage) → (t : Storage) × IsCanon s.format (stands s) t
+
+-- the function that entries name has their values at their coordinates, and the fill elsewhere
+pub record IsNamedBy (shape : List ℕ) (fill : ℤ) (es : List Entry) (f : TensorFunction) : Type 0 where
+  pub shape_is : f.shape ≡ shape
+  pub fill_is : f.fill ≡ fill
+  pub there : (k : ℕ) → k < length es → value_at f (coords es k) ≡ word_of es k
+  pub elsewhere : (cs : List ℕ) → ((k : ℕ) → k < length es → coords es k ≢ cs) → value_at f cs ≡ fill
+  pub is_tensor : ((k : ℕ) → k < length es → FitsSigned w64 (word_of es k)) → IsTensor f
+
+abbrev pub NamedByEntries : Type 0
+NamedByEntries = (shape : List ℕ) (fill : ℤ) (es : List Entry) → AreEntries shape es → IsNamedBy shape fill es (named shape fill es)

@@ -1,4 +1,4 @@
-// What a band level keeps of a slice: every coordinate from the first to the last entry with another value than the fill.
+//! What a band level keeps of a slice: every coordinate from the first to the last entry with another value than the fill.
 
 ghost use Rattle.std.specs.Prelude.{◌≡◌, ◌≢◌, ◌<◌, ◌≤◌, ◌-◌, ◌^◌, ℕ, length, OnOk};
 ghost use Rattle.fin_tensor.specs.declared.format.Level.TheVariants as level;

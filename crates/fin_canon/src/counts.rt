@@ -1,4 +1,4 @@
-// How many prefixes a canonical storage keeps, counted without memory.
+//! How many prefixes a canonical storage keeps, counted without memory.
 
 ghost use Rattle.std.specs.Prelude.{◌≡◌, ◌≢◌, ◌<◌, ◌≤◌, ◌+◌, ◌-◌, ◌*◌, ◌^◌, ◌↔◌, IsTrue, ℕ, [], ◌∷◌, drop, length, min, filter};
 ghost use Rattle.std.specs.List.{range_with_len};

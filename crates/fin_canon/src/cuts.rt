@@ -1,4 +1,4 @@
-// What a dense level keeps of a slice: every coordinate.
+//! What a dense level keeps of a slice: every coordinate.
 
 ghost use Rattle.std.specs.Prelude.{◌≡◌, ◌≢◌, ◌<◌, ◌≤◌, ◌-◌, ℕ, length, OnOk};
 ghost use Rattle.fin_canon.specs.Entries.{coords};

@@ -1,4 +1,4 @@
-// Entries, and what is read of them.
+//! Entries, and what is read of them.
 
 ghost use Rattle.std.specs.Prelude.{◌≡◌, ◌≢◌, ◌<◌, ◌≤◌, ◌↔◌, ℕ, IsTrue, length};
 ghost use Rattle.fin_canon.specs.Entries.{coords, word_of};

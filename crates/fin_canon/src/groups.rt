@@ -1,4 +1,4 @@
-// What a list or dict level keeps of a slice: the coordinates of the entries with another value than the fill.
+//! What a list or dict level keeps of a slice: the coordinates of the entries with another value than the fill.
 
 ghost use Rattle.std.specs.Prelude.{ℕ, OnOk};
 ghost use Rattle.fin_tensor.specs.declared.format.Level.TheVariants as level;

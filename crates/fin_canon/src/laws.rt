@@ -1,4 +1,4 @@
-ghost use Rattle.fin_canon.specs.Laws.{CanonicalIsUnique, CanonicalIsValid, CanonicalStands, CanonicalStaysValid};
+ghost use Rattle.fin_canon.specs.Laws.{CanonicalIsUnique, CanonicalIsValid, CanonicalStands, CanonicalStaysValid, NamedByEntries};
 
 /// A canonical storage stands for its function.
 pub fn canonical_stands()
@@ -18,4 +18,9 @@ pub fn canonical_is_unique()
 /// The function of a storage has a canonical storage in the storage's format.
 pub fn canonical_stays_valid()
     ensures { CanonicalStaysValid }
+{}
+
+/// The function that entries name has their values at their coordinates, and the fill elsewhere.
+pub fn named_by_entries()
+    ensures { NamedByEntries }
 {}

@@ -1,4 +1,4 @@
-// One level of a canonical storage.
+//! One level of a canonical storage.
 
 ghost use Rattle.std.specs.Prelude.{◌≡◌, OnOk, IfOk};
 ghost use Rattle.std.specs.List.{All};

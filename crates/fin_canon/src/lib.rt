@@ -1,6 +1,8 @@
 //! Canonical storages: `store` makes them, and what is true of them.
 //!
-//! `store` gives the canonical storage of the function that entries name, or says that it is too large.
+//! `store` gives the canonical storage of the function that entries name, or says that it is too large. It goes over the
+//! entries level by level: each kept prefix is a range of them. Entries that have the fill are passed over. Its work is
+//! proportional to the entries and to what is stored, and the sizes are counted before memory is taken.
 //!
 //! The canonical storage of a tensor function stands for it, is valid where its size allows, and is the only storage of
 //! its form. That of the function of a storage is valid in the storage's format.
@@ -16,6 +18,11 @@ mod laws;
 mod levels;
 mod lists;
 mod runs;
+#[cfg(test)]
+mod tests;
 
 pub use build::store;
-pub use laws::{canonical_is_unique, canonical_is_valid, canonical_stands, canonical_stays_valid};
+pub use laws::{
+    canonical_is_unique, canonical_is_valid, canonical_stands, canonical_stays_valid,
+    named_by_entries,
+};

@@ -1,4 +1,4 @@
-// The lists of a canonical storage.
+//! The lists of a canonical storage.
 
 ghost use Rattle.std.specs.Prelude.{◌≡◌, ◌<◌, ◌≤◌, [], ◌∷◌, length, IfOk, map};
 ghost use Rattle.std.specs.List.{All};

@@ -1,4 +1,4 @@
-// What a runs level keeps of a slice: the last coordinate of each run of equal values.
+//! What a runs level keeps of a slice: the last coordinate of each run of equal values.
 
 ghost use Rattle.std.specs.Prelude.{◌≡◌, ◌<◌, ◌≤◌, ◌↔◌, ℕ, ℤ, IsTrue, length, IfSome, OnOk};
 ghost use Rattle.fin_tensor.specs.declared.format.Level.TheVariants as level;
