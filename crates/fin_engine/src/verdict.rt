@@ -5,6 +5,7 @@ ghost use Rattle.fin_engine.specs.Verdict.{Checks};
 use crate::cut::cut;
 use fin_base::{Fail, Refusal, Rule};
 use fin_lex::lex;
+use fin_parse::read_trees;
 use std::alloc::Global;
 
 /// Checks a job, rule by rule, in the order of the rules.
@@ -21,8 +22,7 @@ pub fn check(alloc: Global, text: &[u8]) -> Result<(), Fail>
             line: 0,
         }));
     };
-    if let Err(fail) = lex(alloc, parts.program, 1) {
-        return Err(fail);
-    }
+    let tokens = lex(alloc, parts.program, 1)?;
+    read_trees(alloc, parts.program, tokens.as_slice(), parts.last)?;
     Ok(())
 }

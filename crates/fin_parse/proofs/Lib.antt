@@ -5,6 +5,7 @@ pub mod Examples
 pub mod Symbols
 pub mod TextForms
 pub mod OneBreach
+pub mod OneVerdict
 pub mod Classes
 pub mod LastLines
 pub mod Finds
