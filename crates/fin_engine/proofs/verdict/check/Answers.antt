@@ -1,8 +1,10 @@
-use Rattle.std.proofs.Common.{List, ℕ, subst, sym}
+use Rattle.std.proofs.Common.{rules, ◌≡◌, List, ℕ, subst, sym}
+use Rattle.std.specs.Prelude.{Err}
 use Rattle.fin_base.specs.declared.refusal.Fail.{Fail}
 use Rattle.fin_base.specs.declared.refusal.Fail.TheVariants.{Memory, Refused}
-use Rattle.std.specs.Prelude.{Err}
-use Rattle.fin_lex.specs.Tokens.{Outcome}
+use Rattle.fin_lex.specs.declared.token.Token.{Token}
+use Rattle.fin_lex.specs.Tokens.{AreTokens, Outcome}
+use Rattle.fin_parse.specs.Verdict.{Verdict}
 use Rattle.fin_engine.specs.Cut.{IsCut}
 use Rattle.fin_engine.specs.Verdict.{Breaks, Checks}
 use Rattle.fin_engine.proofs.verdict.check.Goals as goal
@@ -15,7 +17,25 @@ unlexed text program tensors last (Memory e) cut breaks = tt
 pub returns-in_default : goal.returns-in_default
 returns-in_default c = record { verdict = Breaks.endless c.in_default.ensures.parts }
 
-pub returns-in-Err : goal.returns-in-Err
-returns-in-Err c =
+pub returns-in_err-tokens : goal.returns-in_err-tokens
+returns-in_err-tokens c =
     let parts = c.in-Some.parts in
-    record { verdict = unlexed c.args.text.now parts.program.now parts.tensors.now parts.last c.in-Err.fail c.in-Some.ensures.parts c.in-Err.ensures.tokens }
+    let fail = c.in_err-tokens.field-0.0 in
+    let is : c.from_residual.result ≡ Err fail = search rules in
+    record { verdict = subst (λ r. Checks c.args.text.now r) (sym is) (unlexed c.args.text.now parts.program.now parts.tensors.now parts.last fail c.in-Some.ensures.parts c.in_err-tokens.ensures.tokens) }
+
+-- a text of tokens that breaks a rule
+refused : (text program tensors : List ℕ) (last : ℕ) (tokens : List Token) (fail : Fail) → IsCut text program tensors last → AreTokens program 1 tokens
+    → Verdict program tokens last (Err fail) → Checks {T = Unit {0}} text (Err fail)
+refused text program tensors last tokens (Refused r) cut lexed verdict = Breaks.no_program program tensors last tokens r cut lexed verdict
+refused text program tensors last tokens (Memory e) cut lexed verdict = tt
+
+pub returns-in_err-read_trees : goal.returns-in_err-read_trees
+returns-in_err-read_trees c =
+    let parts = c.in-Some.parts in
+    let fail = c.in_err-read_trees.field-0.0 in
+    let is : c.from_residual-in_err-read_trees.result ≡ Err fail = search rules in
+    let tokens = c.in_ok-tokens.tokens.items in
+    let all : c.as_slice.result.now ≡ tokens = search rules in
+    let verdict : Verdict parts.program.now tokens parts.last (Err fail) = subst (λ x. Verdict parts.program.now x parts.last (Err fail)) all c.in_err-read_trees.ensures.verdict in
+    record { verdict = subst (λ r. Checks c.args.text.now r) (sym is) (refused c.args.text.now parts.program.now parts.tensors.now parts.last tokens fail c.in-Some.ensures.parts c.in_ok-tokens.ensures.tokens verdict) }
