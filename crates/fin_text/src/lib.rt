@@ -15,7 +15,7 @@ mod tests;
 mod words;
 mod write;
 
-pub use names::is_name;
+pub use names::{is_name, name_from};
 pub use numbers::{read_size, read_value};
 pub use storage::Storage;
 pub use words::{read_sizes, read_values};

@@ -28,7 +28,7 @@ pub fn is_name(word: &[u8]) -> bool
 }
 
 /// The name of these bytes.
-pub(crate) fn name_from(alloc: Global, bytes: &[u8]) -> Result<Name, AllocError>
+pub fn name_from(alloc: Global, bytes: &[u8]) -> Result<Name, AllocError>
     ensures { IfOk result (λ name. name ≡ bytes.now) }
 {
     let mut name = Name::new(alloc);
@@ -45,7 +45,7 @@ fn begins_name(byte: u8) -> bool
 }
 
 /// Tells whether a byte can stand in a name.
-pub(crate) fn continues_name(byte: u8) -> bool
+fn continues_name(byte: u8) -> bool
     ensures { result ≡ continues_name byte }
 {
     byte.is_ascii_alphanumeric() || byte == b'_'
