@@ -1,3 +1,4 @@
+pub mod Words
 pub mod Splits
 pub mod Chains
 pub mod OneLine
