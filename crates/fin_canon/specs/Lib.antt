@@ -1,1 +1,5 @@
+pub mod Counts
+pub mod Entries
 pub mod Laws
+pub mod Ranges
+pub mod Runs

@@ -1,9 +1,21 @@
-//! Canonical storages: what is true of them.
+//! Canonical storages: `store` makes them, and what is true of them.
+//!
+//! `store` gives the canonical storage of the function that entries name, or says that it is too large.
 //!
 //! The canonical storage of a tensor function stands for it, is valid where its size allows, and is the only storage of
 //! its form. That of the function of a storage is valid in the storage's format.
 #![tactic(auto)]
 
+mod blocks;
+mod build;
+mod counts;
+mod cuts;
+mod entry;
+mod groups;
 mod laws;
+mod levels;
+mod lists;
+mod runs;
 
+pub use build::store;
 pub use laws::{canonical_is_unique, canonical_is_valid, canonical_stands, canonical_stays_valid};

@@ -1,22 +1,21 @@
 -- How a mode ends, by what is due.
-use Rattle.std.proofs.Common.{◌≡◌, ◌≢◌, ◌∙◌, ◌≤◌, ℕ, ℤ, List, [], length, refl, sym, ap, ap₂, subst, inl, inr, arith}
-use Rattle.std.specs.Prelude.{Ok, Err, Result, true, false, Bool}
+use Rattle.std.proofs.Common.{◌^◌, ◌≡◌, ◌≢◌, ◌∙◌, ◌≤◌, ℕ, ℤ, List, [], length, refl, sym, ap, ap₂, subst, inl, inr, arith}
+use Rattle.std.specs.Prelude.{Ok, Err, Result, true}
 use Rattle.std.specs.Io.KnownBytes.{Appends}
 use Rattle.std.proofs.KnownBytes.{Appends-nil}
 use Rattle.fin_base.specs.declared.refusal.Refusal.{Refusal}
-use Rattle.fin_parse.specs.declared.first_form.FirstForm.{FirstForm}
-use Rattle.fin_parse.specs.FirstForm.{IsJob}
-use Rattle.fin_parse.specs.Lines.{none}
-use Rattle.fin_text.specs.Text.{text_of_lines, vector_lines, vector_text}
-use Rattle.fin_text.specs.declared.storage.Storage.{Storage}
-use Rattle.fin_cli.specs.Dense.{canonical_values, evaluated, vector}
+use Rattle.fin_form.specs.declared.first_form.FirstForm.{FirstForm}
+use Rattle.fin_form.specs.FirstForm.{IsJob}
+use Rattle.fin_form.specs.Lines.{none}
+use Rattle.fin_text.specs.Tensors.{tensor_text}
+use Rattle.fin_tensor.specs.declared.storage.Storage.{Storage}
 use Rattle.fin_base.specs.declared.refusal.Fail.{Fail}
 use Rattle.fin_base.specs.declared.refusal.Fail.TheVariants as fails
 use Rattle.fin_ports.specs.Bytes.{most}
 use Rattle.fin_words.specs.declared.mode.Mode.{Mode}
 use Rattle.fin_words.specs.declared.mode.Mode.TheVariants.{Run, Check, Plain, Gen}
 use Rattle.fin_engine.specs.Verdict.{Accepts, Checks}
-use Rattle.fin_cli.specs.Due.{Due, IsDueForm, IsDueMode, IsDueRead, IsDueThen, output_text, reads_job, refused}
+use Rattle.fin_cli.specs.Due.{Due, IsDueForm, IsDueMode, IsDueRead, IsDueThen, done, refused}
 use Rattle.fin_cli.specs.Ends.{Across, Took}
 use Rattle.fin_cli.specs.Stops.{Comes, Fails, Refuses}
 use Rattle.fin_cli.specs.declared.outcome.Answer.{Answer}
@@ -36,7 +35,7 @@ refuses_comes refusal (Err stop) source out Is h same is = subst (λ s. Comes so
 low_form : (job : List ℕ) (due : Due) → IsDueForm job due → due.status ≤ 1
 low_form job due (IsDueForm.outside h) = omega arith
 low_form job due (IsDueForm.differs form h ne) = omega arith
-low_form job due (IsDueForm.runs form h e) = omega arith
+low_form job due (IsDueForm.runs form h e s canon) = omega arith
 
 low_then : (mode : Mode) (job : List ℕ) (due : Due) → IsDueThen mode job due → due.status ≤ 1
 low_then Run job due h = low_form job due h
@@ -55,19 +54,6 @@ low_due Check job due h = low_read Check job due h
 low_due Plain job due h = low_read Plain job due h
 low_due Gen job due h = omega (arith, ap (λ d. d.status) h)
 
--- a mode other than `gen` reads its job
-pub comes_read : (mode : Mode) (job : List ℕ) (source out : Across) (r : Result Answer Stop) → mode ≢ Gen → Comes source out (IsDueRead job (IsDueThen mode job)) r → Comes source out (IsDueMode mode job) r
-comes_read Run job source out r n h = h
-comes_read Check job source out r n h = h
-comes_read Plain job source out r n h = h
-comes_read Gen job source out r n h = absurd (n refl)
-
-pub reads_is : (mode : Mode) → mode ≢ Gen → true ≡ reads_job mode
-reads_is Run n = refl
-reads_is Check n = refl
-reads_is Plain n = refl
-reads_is Gen n = absurd (n refl)
-
 -- what comes then, comes of a job that breaks no rule
 pub comes_then : (job : List ℕ) (Next : Due → Type 0) (source out : Across) (r : Result Answer Stop) → length job ≤ most → Accepts job → Comes source out Next r → Comes source out (IsDueRead job Next) r
 comes_then job Next source out (Ok answer) few a (due, next, h) = (due, IsDueRead.passes due few a next, h)
@@ -81,24 +67,16 @@ pub comes_failed : (job : List ℕ) (Next : Due → Type 0) (source out : Across
 comes_failed job Next source out (fails.Refused refusal) r few breaks h same = refuses_comes refusal r source out (IsDueRead job Next) h same (IsDueRead.breaks refusal.rule refusal.line few breaks)
 comes_failed job Next source out (fails.Memory e) r few breaks h same = subst (Comes source out (IsDueRead job Next)) (sym h) (inl (nothing out same))
 
--- the text of the values that were computed
-pub text_is : (form : FirstForm) (storage : Storage) (n : ℕ) → storage.extent ≡ form.left.extent → n ≡ form.left.extent
-    → storage.val ≡ canonical_values n (evaluated n (vector n form.left.values) (vector n form.right.values)) → vector_text form.product storage ≡ output_text form
-unfolding vector_text output_text
-text_is form storage n extent len is =
-    ap₂ (λ m vs. text_of_lines (vector_lines form.product m vs)) extent
-    (is ∙ ap (λ m. canonical_values m (evaluated m (vector m form.left.values) (vector m form.right.values))) len)
-
--- the values, over the two slices that were evaluated
-pub values_is : (form : FirstForm) (left right values : List ℤ) → left ≡ form.left.values → right ≡ form.right.values
-    → values ≡ canonical_values (length left) (evaluated (length left) (vector (length left) left) (vector (length left) right))
-    → values ≡ canonical_values (length left) (evaluated (length left) (vector (length left) form.left.values) (vector (length left) form.right.values))
-values_is form left right values l r is =
-    is ∙ ap₂ (λ a b. canonical_values (length left) (evaluated (length left) (vector (length left) a) (vector (length left) b))) l r
-
 -- a form has as many values as its extents say
 pub whole_left : (job : List ℕ) (form : FirstForm) → IsJob job form → length form.left.values ≡ form.left.extent
 whole_left job form is = (is.met 10 none (omega arith)).0
 
 pub whole_right : (job : List ℕ) (form : FirstForm) → IsJob job form → length form.right.values ≡ form.right.extent
 whole_right job form is = (is.met 16 none (omega arith)).0
+
+pub small_extent : (job : List ℕ) (form : FirstForm) → IsJob job form → form.left.extent ≤ 2 ^ 40
+small_extent job form is = is.met 9 none (omega arith)
+
+-- what is due for a form of a job, with the storage that was computed
+abbrev pub due_text : FirstForm → Storage → Due
+due_text form storage = done (tensor_text form.product storage)

@@ -5,3 +5,4 @@ pub mod OneDue
 pub mod Promised
 pub mod Serving
 pub mod Turns
+pub mod Vectors

@@ -1,32 +1,46 @@
 -- One answer is due.
-use Rattle.std.proofs.Common.{◌≡◌, ◌∙◌, ◌<◌, ◌≤◌, ℕ, List, length, Some, None, refl, sym, ap, ap₂, arith}
+use Rattle.std.proofs.Common.{◌≡◌, ◌∙◌, ℕ, List, Some, None, refl, sym, ap, ap₂, subst, arith}
 use Rattle.std.specs.declared.option.Option.{Option}
-use Rattle.fin_base.specs.declared.refusal.Rule.{Rule}
-use Rattle.fin_ports.specs.Bytes.{most}
-use Rattle.fin_engine.specs.Verdict.{Accepts, Breaks}
 use Rattle.fin_engine.proofs.Verdicts.{accepted_or_not, one_breach}
-use Rattle.fin_parse.specs.FirstForm.{IsJob}
-use Rattle.fin_parse.specs.declared.first_form.FirstForm.{FirstForm}
-use Rattle.fin_parse.proofs.FormLaws.{one_form}
+use Rattle.fin_form.specs.FirstForm.{IsJob}
+use Rattle.fin_form.specs.declared.first_form.FirstForm.{FirstForm}
+use Rattle.fin_form.proofs.FormLaws.{one_form}
+use Rattle.fin_text.specs.Tensors.{tensor_text}
+use Rattle.fin_tensor.specs.Canon.{IsCanon}
+use Rattle.fin_tensor.specs.TensorFunction.{TensorFunction}
+use Rattle.fin_tensor.specs.declared.format.Format.{Format}
+use Rattle.fin_tensor.specs.declared.storage.Storage.{Storage}
+use Rattle.fin_tensor.proofs.Same.{same_storage}
+use Rattle.fin_cli.specs.Dense.{dense_vector, product_of}
 use Rattle.fin_words.specs.declared.mode.Asked.{Asked}
 use Rattle.fin_words.specs.declared.mode.Mode.{Mode}
 use Rattle.fin_words.specs.declared.mode.Mode.TheVariants.{Run, Check, Plain, Gen}
-use Rattle.fin_cli.specs.Due.{Due, IsDue, IsDueForm, IsDueMode, IsDueRead, IsDueThen, done, output_text, refused}
+use Rattle.fin_cli.specs.Due.{Due, IsDue, IsDueForm, IsDueMode, IsDueRead, IsDueThen, done, refused}
 
 -- the extents of a job's form differ or they don't
 same_extents : (job : List ℕ) (f g : FirstForm) → IsJob job f → IsJob job g → f.left.extent ≡ f.right.extent → g.left.extent ≡ g.right.extent
 same_extents job f g h k e = let same : f ≡ g = one_form job f g h k in sym (ap (λ x. x.left.extent) same) ∙ e ∙ ap (λ x. x.right.extent) same
 
+-- a form has one canonical storage, and so one text
+one_storage : (format : Format) (f : TensorFunction) (s t : Storage) → IsCanon format f s → IsCanon format f t → s ≡ t
+one_storage format f s t h k = same_storage s t (h.format_is ∙ sym k.format_is) (h.shape ∙ sym k.shape) (h.parts ∙ sym k.parts) (h.val ∙ sym k.val)
+
+one_text : (f g : FirstForm) (s t : Storage) → f ≡ g → IsCanon dense_vector (product_of f) s → IsCanon dense_vector (product_of g) t
+    → done (tensor_text f.product s) ≡ done (tensor_text g.product t)
+one_text f g s t e h k =
+    let same : s ≡ t = one_storage dense_vector (product_of g) s t (subst (λ x. IsCanon dense_vector (product_of x) s) e h) k in
+    ap₂ (λ x y. done (tensor_text x.product y)) e same
+
 one_form_due : (job : List ℕ) (d e : Due) → IsDueForm job d → IsDueForm job e → d ≡ e
 one_form_due job d e (IsDueForm.outside h) (IsDueForm.outside k) = refl
 one_form_due job d e (IsDueForm.outside h) (IsDueForm.differs g k ne) = absurd (h g k)
-one_form_due job d e (IsDueForm.outside h) (IsDueForm.runs g k same) = absurd (h g k)
+one_form_due job d e (IsDueForm.outside h) (IsDueForm.runs g k same t other) = absurd (h g k)
 one_form_due job d e (IsDueForm.differs f h ne) (IsDueForm.outside k) = absurd (k f h)
 one_form_due job d e (IsDueForm.differs f h ne) (IsDueForm.differs g k other) = refl
-one_form_due job d e (IsDueForm.differs f h ne) (IsDueForm.runs g k same) = absurd (ne (same_extents job g f k h same))
-one_form_due job d e (IsDueForm.runs f h same) (IsDueForm.outside k) = absurd (k f h)
-one_form_due job d e (IsDueForm.runs f h same) (IsDueForm.differs g k ne) = absurd (ne (same_extents job f g h k same))
-one_form_due job d e (IsDueForm.runs f h same) (IsDueForm.runs g k again) = ap (λ x. done (output_text x)) (one_form job f g h k)
+one_form_due job d e (IsDueForm.differs f h ne) (IsDueForm.runs g k same t other) = absurd (ne (same_extents job g f k h same))
+one_form_due job d e (IsDueForm.runs f h same s canon) (IsDueForm.outside k) = absurd (k f h)
+one_form_due job d e (IsDueForm.runs f h same s canon) (IsDueForm.differs g k ne) = absurd (ne (same_extents job f g h k same))
+one_form_due job d e (IsDueForm.runs f h same s canon) (IsDueForm.runs g k again t other) = one_text f g s t (one_form job f g h k) canon other
 
 one_then : (mode : Mode) (job : List ℕ) (d e : Due) → IsDueThen mode job d → IsDueThen mode job e → d ≡ e
 one_then Run job d e h k = one_form_due job d e h k

@@ -1,17 +1,20 @@
 -- What follows from how a call ends.
-use Rattle.std.proofs.Common.{◌≡◌, ◌∙◌, ◌≤◌, ◌⊎◌, ℕ, List, [], length, Bool, true, false, refl, sym, ap, subst, inl, inr, arith}
+use Rattle.std.proofs.Common.{◌≡◌, ◌∙◌, ◌≤◌, ◌⊎◌, ℕ, List, [], length, false, refl, sym, ap, subst, inl, inr, arith}
 use Rattle.std.specs.Prelude.{Some, None, IfSome, Option}
-use Rattle.std.specs.Io.KnownBytes.{Keeps}
 use Rattle.std.proofs.lemmas.Bool.{cases_eq, cases_lt}
 use Rattle.fin_ports.specs.Bytes.{most}
-use Rattle.fin_parse.specs.FirstForm.{IsJob}
-use Rattle.fin_parse.specs.declared.first_form.FirstForm.{FirstForm}
+use Rattle.fin_form.specs.FirstForm.{IsJob}
+use Rattle.fin_form.specs.declared.first_form.FirstForm.{FirstForm}
 use Rattle.fin_words.specs.declared.mode.Asked.{Asked}
 use Rattle.fin_words.specs.declared.mode.Mode.{Mode}
 use Rattle.fin_words.specs.declared.mode.Mode.TheVariants.{Run, Check, Plain, Gen}
-use Rattle.fin_cli.specs.Due.{Due, IsDue, IsDueForm, IsDueMode, IsDueRead, output_text, reads_job, unread}
-use Rattle.fin_cli.specs.Ends.{Across, Ends, Failed, Reads, Serves, Took}
-use Rattle.fin_cli.specs.Promises.{Completes, HasCauses, IsUnasked, UsesExactly, WritesExactly}
+use Rattle.fin_text.specs.Tensors.{tensor_text}
+use Rattle.fin_tensor.specs.Canon.{IsCanon}
+use Rattle.fin_tensor.specs.declared.storage.Storage.{Storage}
+use Rattle.fin_cli.specs.Dense.{dense_vector, product_of}
+use Rattle.fin_cli.specs.Due.{Due, IsDue, IsDueForm, IsDueMode, IsDueRead, IsDueThen, reads_job, unread}
+use Rattle.fin_cli.specs.Ends.{Across, Serves, Took}
+use Rattle.fin_cli.specs.Promises.{Completes, HasCauses, IsSilent, IsUnasked, UsesExactly, WritesExactly}
 use Rattle.fin_cli.proofs.Comings.{low_due}
 use Rattle.fin_cli.proofs.OneDue.{one_due}
 
@@ -21,12 +24,14 @@ record Runs (job : List ℕ) (due : Due) : Type 0 where
   form : FirstForm
   stands : IsJob job form
   same : form.left.extent ≡ form.right.extent
-  text : due.out ≡ output_text form
+  storage : Storage
+  canon : IsCanon dense_vector (product_of form) storage
+  text : due.out ≡ tensor_text form.product storage
 
 form_runs : (job : List ℕ) (due : Due) → length job ≤ most → IsDueForm job due → due.status ≡ 0 → Runs job due
 form_runs job due few (IsDueForm.outside h) zero = absurd (omega arith)
 form_runs job due few (IsDueForm.differs form h ne) zero = absurd (omega arith)
-form_runs job due few (IsDueForm.runs form h e) zero = record { few = few; form = form; stands = h; same = e; text = refl }
+form_runs job due few (IsDueForm.runs form h e s canon) zero = record { few = few; form = form; stands = h; same = e; storage = s; canon = canon; text = refl }
 
 job_runs : (job : List ℕ) (due : Due) → IsDueRead job (IsDueForm job) due → due.status ≡ 0 → Runs job due
 job_runs job due (IsDueRead.too_long many) zero = absurd (omega arith)
@@ -50,7 +55,7 @@ writes_exactly (Some asked) source out err status (job, reads, ends) a is run ze
     let asks : asked.mode ≡ Run = ap (λ x. x.mode) same ∙ run in
     let r = mode_runs asked.mode job due asks f.1 due_zero in
     let whole = reads.whole (ap reads_job asks) small r.few in
-    (job, reads.told, whole.0, whole.1, r.form, r.stands, r.same, subst (Took out) r.text f.2.1)
+    (job, reads.told, whole.0, whole.1, r.form, r.stands, r.same, r.storage, r.canon, subst (Took out) r.text f.2.1)
 
 told_is : (before : Option (List ℕ)) (job x : List ℕ) → before ≡ Some job → IfSome before (λ bytes. x ≡ bytes) → x ≡ job
 told_is None job x e h = cc
@@ -106,3 +111,37 @@ uses_exactly asked source out err status (job, reads, ends) unasked = (
       (u.0, reads.unread (unread_job asked u.0), subst (λ d. Took out d.out) u.1 f.2.1, subst (λ d. Took err d.err) u.1 f.2.2),
   unasked,
 )
+
+form_silent : (job : List ℕ) (due : Due) → IsDueForm job due → 1 ≤ due.status → due.out ≡ []
+form_silent job due (IsDueForm.outside h) some = refl
+form_silent job due (IsDueForm.differs form h ne) some = refl
+form_silent job due (IsDueForm.runs form h e s canon) some = absurd (omega arith)
+
+then_silent : (mode : Mode) (job : List ℕ) (due : Due) → IsDueThen mode job due → 1 ≤ due.status → due.out ≡ []
+then_silent Run job due h some = form_silent job due h some
+then_silent Check job due h some = absurd (omega (arith, ap (λ d. d.status) h))
+then_silent Plain job due h some = ap (λ d. d.out) h
+then_silent Gen job due h some = ap (λ d. d.out) h
+
+read_silent : (mode : Mode) (job : List ℕ) (due : Due) → IsDueRead job (IsDueThen mode job) due → 1 ≤ due.status → due.out ≡ []
+read_silent mode job due (IsDueRead.too_long many) some = refl
+read_silent mode job due (IsDueRead.breaks rule line few h) some = refl
+read_silent mode job due (IsDueRead.passes d few h next) some = then_silent mode job due next some
+
+mode_silent : (mode : Mode) (job : List ℕ) (due : Due) → IsDueMode mode job due → 1 ≤ due.status → due.out ≡ []
+mode_silent Run job due h some = read_silent Run job due h some
+mode_silent Check job due h some = read_silent Check job due h some
+mode_silent Plain job due h some = read_silent Plain job due h some
+mode_silent Gen job due h some = ap (λ d. d.out) h
+
+silent_due : (asked : Option Asked) (job : List ℕ) (due : Due) → IsDue asked job due → 1 ≤ due.status → due.out ≡ []
+silent_due None job due h some = ap (λ d. d.out) h
+silent_due (Some asked) job due h some = mode_silent asked.mode job due h some
+
+pub is_silent : (asked : Option Asked) (source out err : Across) (status : ℕ) → Serves asked source out err status → IsSilent out status
+is_silent asked source out err status (job, reads, ends) some few = elim (cases_eq status 3) [
+  | inl three ↦ (ends.read_fault three).1
+  | inr other ↦
+      let f = ends.finished (omega arith) in
+      subst (Took out) (silent_due asked job f.0 f.1 (omega (arith, f.2.0))) f.2.1
+]

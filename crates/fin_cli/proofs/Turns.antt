@@ -1,14 +1,13 @@
 -- What changes at each coordinate of a vector, one after another, leave there.
-use Rattle.std.proofs.Common.{◌≡◌, ◌≢◌, ◌∙◌, ℕ, zero, suc, ◌+◌, ◌<◌, ◌≤◌, ℤ, pos, List, [], ◌∷◌, length, get_or, refl, sym, ap, arith, inl, inr, map}
+use Rattle.std.proofs.Common.{◌≡◌, ◌≢◌, ◌∙◌, ℕ, zero, suc, ◌+◌, ◌<◌, ◌≤◌, ℤ, pos, List, [], ◌∷◌, get_or, refl, sym, ap, arith, inl, inr, map}
 use Rattle.std.specs.Prelude.{fold}
 use Rattle.std.specs.List.{range_with_len}
-use Rattle.std.proofs.lemmas.Bool.{cases_eq, cases_lt}
-use Rattle.std.proofs.lemmas.List.FromFn.{get_or-map-range_with_len, length-map-range_with_len}
-use Rattle.fin_tensor.specs.TensorFunction.{TensorFunction, changed, value_at, with_value, filled}
+use Rattle.std.proofs.lemmas.Bool.{cases_eq}
+use Rattle.fin_tensor.specs.TensorFunction.{TensorFunction, changed, value_at, filled}
 use Rattle.fin_tensor.proofs.Functions.{gives_one_place}
 use Rattle.fin_base.specs.Words.{apply}
 use Rattle.fin_base.specs.declared.reduce.Reduce.TheVariants.{Add, Mul}
-use Rattle.fin_cli.specs.Dense.{canonical_values, evaluated, product_at, vector}
+use Rattle.fin_cli.specs.Dense.{values_of, evaluated, product_at, vector}
 use Rattle.std.specs.Prelude.{unwrap_or}
 use Rattle.std.specs.FinMap.{get-empty}
 use Rattle.std.specs.Ordering.{nat_cmp}
@@ -72,5 +71,5 @@ evaluated_at n left right i lt =
     ∙ ap (λ w. apply Add w (product_at a b i)) (sym (filled_at n (i ∷ [])))
     ∙ sym (stepped_at (λ j w. apply Add w (product_at a b j)) (filled (n ∷ []) (pos 0)) 0 n i (omega arith) (omega arith))
 
-pub evaluated_values : (n : ℕ) (left right : List ℤ) → map (sum_of_one left right) (range_with_len 0 n) ≡ canonical_values n (evaluated n (vector n left) (vector n right))
+pub evaluated_values : (n : ℕ) (left right : List ℤ) → map (sum_of_one left right) (range_with_len 0 n) ≡ values_of n (evaluated n (vector n left) (vector n right))
 evaluated_values n left right = map_same (sum_of_one left right) (λ i. value_at (evaluated n (vector n left) (vector n right)) (i ∷ [])) 0 n (λ i lt. evaluated_at n left right i (omega arith))

@@ -3,6 +3,10 @@ use Rattle.std.specs.Prelude.{ℕ, ℤ, pos, List, [], ◌∷◌, slice_index_or
 use Rattle.std.specs.List.{range_with_len}
 use Rattle.fin_base.specs.Words.{apply}
 use Rattle.fin_base.specs.declared.reduce.Reduce.TheVariants.{Add, Mul}
+use Rattle.fin_form.specs.declared.first_form.FirstForm.{FirstForm}
+use Rattle.fin_tensor.specs.declared.format.Format.{Format}
+use Rattle.fin_tensor.specs.declared.format.Level.TheVariants.{Dense}
+use Rattle.fin_tensor.specs.declared.format.Wrap.TheVariants.{Bare}
 use Rattle.fin_tensor.specs.TensorFunction.{TensorFunction, changed, filled, value_at, with_value}
 
 -- the coordinates of a vector, in the loop's order
@@ -25,6 +29,14 @@ turn a b y i = changed y (i ∷ []) (λ w. apply Add w (product_at a b i))
 unfoldable pub evaluated : ℕ → TensorFunction → TensorFunction → TensorFunction
 evaluated n a b = fold (turn a b) (filled (n ∷ []) (pos 0)) (coordinates n)
 
--- the canonical storage of a vector in the format `dense element`: its value at every coordinate
-abbrev pub canonical_values : ℕ → TensorFunction → List ℤ
-canonical_values n y = map (λ i. value_at y (i ∷ [])) (coordinates n)
+-- the values of a vector at every coordinate
+abbrev pub values_of : ℕ → TensorFunction → List ℤ
+values_of n y = map (λ i. value_at y (i ∷ [])) (coordinates n)
+
+-- the format `dense element` with fill 0
+abbrev pub dense_vector : Format
+dense_vector = record { levels = Dense ∷ []; wrap = Bare; fill = pos 0 }
+
+-- what Y is in the end, for a job of the first form
+unfoldable pub product_of : FirstForm → TensorFunction
+product_of form = evaluated form.left.extent (vector form.left.extent form.left.values) (vector form.left.extent form.right.values)

@@ -5,14 +5,16 @@ use Rattle.fin_base.specs.declared.refusal.Refusal.{Refusal}
 use Rattle.fin_base.specs.declared.refusal.Rule.{Rule}
 use Rattle.fin_base.specs.declared.refusal.Rule.TheVariants.{J1, J2, S1, S2, S3, N1, N2, N3, F1, F2, X1, X2, X3, X4, X5, X6, L1, L2, L3, L4, L5, L6, L7, M1, M2, M3, M4, M5, B1, B2, B3, U1, U2, C1, C2, C3, C4, C5, W1}
 use Rattle.fin_ports.specs.Bytes.{most}
-use Rattle.fin_parse.specs.declared.first_form.FirstForm.{FirstForm}
-use Rattle.fin_parse.specs.FirstForm.{IsJob}
+use Rattle.fin_form.specs.declared.first_form.FirstForm.{FirstForm}
+use Rattle.fin_form.specs.FirstForm.{IsJob}
 use Rattle.fin_words.specs.declared.mode.Asked.{Asked}
 use Rattle.fin_words.specs.declared.mode.Mode.{Mode}
 use Rattle.fin_words.specs.declared.mode.Mode.TheVariants.{Run, Check, Plain, Gen}
 use Rattle.fin_engine.specs.Verdict.{Accepts, Breaks}
-use Rattle.fin_text.specs.Text.{text_of_lines, vector_lines}
-use Rattle.fin_cli.specs.Dense.{canonical_values, evaluated, vector}
+use Rattle.fin_text.specs.Tensors.{tensor_text}
+use Rattle.fin_tensor.specs.Canon.{IsCanon}
+use Rattle.fin_tensor.specs.declared.storage.Storage.{Storage}
+use Rattle.fin_cli.specs.Dense.{dense_vector, product_of}
 
 pub record Due : Type 0 where
   pub status : ℕ
@@ -91,16 +93,13 @@ refused rule line = record { status = 1; out = []; err = refusal_text (record { 
 abbrev pub unread : Due
 unread = record { status = 2; out = []; err = usage }
 
--- the canonical storage text of what dense evaluation gives for a form
-unfoldable pub output_text : FirstForm → List ℕ
-output_text form = text_of_lines (vector_lines form.product form.left.extent (canonical_values form.left.extent
-    (evaluated form.left.extent (vector form.left.extent form.left.values) (vector form.left.extent form.right.values))))
-
--- what is due for a job that breaks none of the rules so far, in a run: it has to be of the first form
+-- what is due for a job that breaks none of the rules so far, in a run: it has to be of the first form, and then it is the canonical
+-- storage text of what dense evaluation gives
 pub data IsDueForm (job : List ℕ) : Due → Type 0 where
   outside : ((form : FirstForm) → ¬ (IsJob job form)) → IsDueForm job (refused S2 0)
   differs : (form : FirstForm) → IsJob job form → form.left.extent ≢ form.right.extent → IsDueForm job (refused M1 5)
-  runs : (form : FirstForm) → IsJob job form → form.left.extent ≡ form.right.extent → IsDueForm job (done (output_text form))
+  runs : (form : FirstForm) → IsJob job form → form.left.extent ≡ form.right.extent
+      → (storage : Storage) → IsCanon dense_vector (product_of form) storage → IsDueForm job (done (tensor_text form.product storage))
 
 -- what is due for a job that is read: its first breach, or else what is due then
 pub data IsDueRead (job : List ℕ) (Next : Due → Type 0) : Due → Type 0 where

@@ -1,12 +1,16 @@
 -- What a call promises, in plain words.
 use Rattle.std.specs.Prelude.{◌≡◌, ℕ, ◌≤◌, ◌⊎◌, List, [], IfSome, Some, None}
 use Rattle.std.specs.Io.KnownBytes.{Consumes, IsAtEnd, Keeps}
-use Rattle.fin_parse.specs.FirstForm.{IsJob}
-use Rattle.fin_parse.specs.declared.first_form.FirstForm.{FirstForm}
+use Rattle.fin_form.specs.FirstForm.{IsJob}
+use Rattle.fin_form.specs.declared.first_form.FirstForm.{FirstForm}
 use Rattle.std.specs.declared.option.Option.{Option}
 use Rattle.fin_words.specs.declared.mode.Asked.{Asked}
 use Rattle.fin_words.specs.declared.mode.Mode.TheVariants.{Run}
-use Rattle.fin_cli.specs.Due.{Due, IsDue, output_text, usage}
+use Rattle.fin_cli.specs.Due.{Due, IsDue, usage}
+use Rattle.fin_text.specs.Tensors.{tensor_text}
+use Rattle.fin_tensor.specs.Canon.{IsCanon}
+use Rattle.fin_tensor.specs.declared.storage.Storage.{Storage}
+use Rattle.fin_cli.specs.Dense.{dense_vector, product_of}
 use Rattle.fin_cli.specs.Ends.{Across, Failed, Took}
 
 -- A run with status 0: the output took exactly the canonical storage text of what dense evaluation gives for the job that the source
@@ -14,7 +18,8 @@ use Rattle.fin_cli.specs.Ends.{Across, Failed, Took}
 abbrev pub WritesExactly : Option Asked → Across → Across → ℕ → Type 0
 WritesExactly asked source out status = (a : Asked) → asked ≡ Some a → a.mode ≡ Run → status ≡ 0 →
     (job : List ℕ) × IfSome source.before (λ bytes. job ≡ bytes) × Consumes source.before source.after job × IsAtEnd source.after
-    × (form : FirstForm) × IsJob job form × (form.left.extent ≡ form.right.extent) × Took out (output_text form)
+    × (form : FirstForm) × IsJob job form × (form.left.extent ≡ form.right.extent)
+    × (storage : Storage) × IsCanon dense_vector (product_of form) storage × Took out (tensor_text form.product storage)
 
 -- Where no count of faults rose, the call ends as it is due for the bytes that the source had left, or by want of memory.
 abbrev pub Completes : Option Asked → Across → Across → Across → ℕ → Type 0
@@ -35,3 +40,7 @@ UsesExactly asked source out err status =
 -- A fault is answered only where its count rose in this call.
 abbrev pub HasCauses : Across → Across → Across → ℕ → Type 0
 HasCauses source out err status = (status ≡ 3 → Failed source) × (status ≡ 4 → Failed out ⊎ Failed err)
+
+-- With status 1, 2 or 3 the output took nothing.
+abbrev pub IsSilent : Across → ℕ → Type 0
+IsSilent out status = 1 ≤ status → status ≤ 3 → Took out []

@@ -8,10 +8,13 @@
 
 mod evaluate;
 mod line;
+mod memory;
 mod modes;
 mod outcome;
 mod top;
 
+pub use fin_words::asks_workers;
+pub use memory::finch_in_memory;
 pub use top::{finch, finch_one};
 
 #[cfg(test)]

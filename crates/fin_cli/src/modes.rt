@@ -1,21 +1,21 @@
 //! The modes, over the bytes of a job.
-ghost use Rattle.std.specs.Prelude.{◌≡◌, ◌≢◌, ◌≤◌, ℕ, List, IfOk, length};
+ghost use Rattle.std.specs.Prelude.{◌≡◌, ◌≢◌, ◌≤◌, ◌^◌, ℕ, List, length};
 ghost use Rattle.fin_ports.specs.Bytes.{most};
-ghost use Rattle.fin_text.specs.Text.{vector_text};
-ghost use Rattle.fin_cli.specs.Due.{IsDueForm, IsDueRead, IsDueThen, done, output_text, refusal_text};
+ghost use Rattle.fin_form.specs.FirstForm.{IsJob};
+ghost use Rattle.fin_cli.specs.Due.{IsDueForm, IsDueRead, IsDueThen, refusal_text};
 ghost use Rattle.fin_cli.specs.Ends.{Across, across};
 ghost use Rattle.fin_cli.specs.Stops.{Comes, Fails, Refuses};
 
-use crate::evaluate::evaluate;
+use crate::evaluate::product;
 use crate::line::refusal_text;
 use crate::outcome::{Answer, Stop};
 use fin_base::{Fail, Refusal, Rule};
 use fin_engine::check;
-use fin_parse::{FirstForm, FormFail, read_first_form};
+use fin_form::{FirstForm, FormFail, read_first_form};
 use fin_ports::{Failed, Sink, put_all};
-use fin_text::{Storage, WriteFail, write_tensor};
+use fin_text::{WriteFail, write_tensor};
 use fin_words::Mode;
-use std::alloc::{AllocError, Global};
+use std::alloc::Global;
 
 /// Does with a job what a mode asks.
 pub(crate) fn serve_job<O: Sink>(
@@ -107,9 +107,10 @@ fn run<O: Sink>(alloc: Global, job: &[u8], out: &mut O) -> Result<Answer, Stop>
 // Evaluates the form and writes its product.
 fn run_form<O: Sink>(alloc: Global, form: &FirstForm, out: &mut O) -> Result<Answer, Stop>
     requires same { form.now.left.extent ≡ form.now.right.extent }
+    requires small { form.now.left.extent ≤ 2 ^ 40 }
     requires left { length form.now.left.values ≡ form.now.left.extent }
     requires right { length form.now.right.values ≡ form.now.right.extent }
-    ensures comes { (source : Across) (job : List ℕ) → IsDueForm job (done (output_text form.now))
+    ensures comes { (source : Across) (job : List ℕ) → IsJob job form.now
         → Comes source (across (O.taken out.old) (O.taken out.new) (O.faults out.old) (O.faults out.new)) (IsDueForm job) result }
     ensures later { O.Later out.old out.new }
 {
@@ -125,24 +126,6 @@ fn run_form<O: Sink>(alloc: Global, form: &FirstForm, out: &mut O) -> Result<Ans
         Err(WriteFail::Fault) => Err(Stop::WriteFault),
         Err(WriteFail::Memory(_)) => Err(Stop::Memory),
     }
-}
-
-// The storage of the form's product.
-fn product(alloc: Global, form: &FirstForm) -> Result<Storage, AllocError>
-    requires same { form.now.left.extent ≡ form.now.right.extent }
-    requires left { length form.now.left.values ≡ form.now.left.extent }
-    requires right { length form.now.right.values ≡ form.now.right.extent }
-    ensures text { IfOk result (λ storage. vector_text form.now.product storage ≡ output_text form.now) }
-{
-    let val = evaluate(
-        alloc,
-        form.left.values.as_slice(),
-        form.right.values.as_slice(),
-    )?;
-    Ok(Storage {
-        extent: form.left.extent,
-        val,
-    })
 }
 
 // The answer to a job without a result.

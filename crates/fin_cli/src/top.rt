@@ -4,7 +4,7 @@ ghost use Rattle.fin_ports.specs.Bytes.{most};
 ghost use Rattle.fin_words.specs.Reading.{asks_workers, reading};
 ghost use Rattle.fin_cli.specs.Due.{IsDueMode, IsDueRead, IsDueThen, reads_job};
 ghost use Rattle.fin_cli.specs.Ends.{Across, Ends, Reads, Serves, across};
-ghost use Rattle.fin_cli.specs.Promises.{Completes, HasCauses, IsUnasked, UsesExactly, WritesExactly};
+ghost use Rattle.fin_cli.specs.Promises.{Completes, HasCauses, IsSilent, IsUnasked, UsesExactly, WritesExactly};
 ghost use Rattle.fin_cli.specs.Stops.{Comes};
 
 use crate::line::{OUT_OF_MEMORY, READ_FAULT, USAGE, WRITE_FAULT, tell, try_to_tell};
@@ -40,6 +40,7 @@ pub fn finch<R: Threads + Wait + Sync, S: Source, O: Sink, E: Sink>(
         (across (S.left source.old) (S.left source.new) (S.faults source.old) (S.faults source.new))
         (across (O.taken out.old) (O.taken out.new) (O.faults out.old) (O.faults out.new))
         (across (E.taken err.old) (E.taken err.new) (E.faults err.old) (E.faults err.new)) result }
+    ensures silent { IsSilent (across (O.taken out.old) (O.taken out.new) (O.faults out.old) (O.faults out.new)) result }
     ensures serves { Serves (reading (map string_bytes words.now))
         (across (S.left source.old) (S.left source.new) (S.faults source.old) (S.faults source.new))
         (across (O.taken out.old) (O.taken out.new) (O.faults out.old) (O.faults out.new))
@@ -82,6 +83,7 @@ pub fn finch_one<S: Source, O: Sink, E: Sink>(
         (across (S.left source.old) (S.left source.new) (S.faults source.old) (S.faults source.new))
         (across (O.taken out.old) (O.taken out.new) (O.faults out.old) (O.faults out.new))
         (across (E.taken err.old) (E.taken err.new) (E.faults err.old) (E.faults err.new)) result }
+    ensures silent { IsSilent (across (O.taken out.old) (O.taken out.new) (O.faults out.old) (O.faults out.new)) result }
     ensures serves { Serves (reading (map string_bytes words.now))
         (across (S.left source.old) (S.left source.new) (S.faults source.old) (S.faults source.new))
         (across (O.taken out.old) (O.taken out.new) (O.faults out.old) (O.faults out.new))
@@ -115,6 +117,7 @@ fn top<S: Source, O: Sink, E: Sink>(
         (across (S.left source.old) (S.left source.new) (S.faults source.old) (S.faults source.new))
         (across (O.taken out.old) (O.taken out.new) (O.faults out.old) (O.faults out.new))
         (across (E.taken err.old) (E.taken err.new) (E.faults err.old) (E.faults err.new)) result }
+    ensures silent { IsSilent (across (O.taken out.old) (O.taken out.new) (O.faults out.old) (O.faults out.new)) result }
     ensures serves { Serves (reading (map string_bytes words.now))
         (across (S.left source.old) (S.left source.new) (S.faults source.old) (S.faults source.new))
         (across (O.taken out.old) (O.taken out.new) (O.faults out.old) (O.faults out.new))

@@ -1,15 +1,14 @@
 -- A job has one verdict.
-use Rattle.std.proofs.Common.{◌≡◌, ◌≢◌, ◌∙◌, ◌+◌, ◌<◌, ℕ, List, [], ◌∷◌, ◌++◌, length, refl, sym, ap, ap₂, subst, arith, codes, get_or, length-append}
+use Rattle.std.proofs.Common.{◌≡◌, ◌≢◌, ◌∙◌, ◌+◌, ℕ, List, [], ◌∷◌, ◌++◌, length, refl, sym, ap, ap₂, subst, arith, codes, length-append}
 use Rattle.std.specs.Prelude.{All}
 use Rattle.std.specs.List.{join_with_byte}
 use Rattle.std.proofs.lemmas.List.Elements.{All-tail}
 use Rattle.std.proofs.Math.Seq.{get_or-append_seam}
 use Rattle.fin_base.specs.declared.refusal.Rule.{Rule}
-use Rattle.fin_base.specs.declared.refusal.Rule.TheVariants.{J2, S1}
 use Rattle.fin_lex.specs.Tokens.{BreaksAt, TokensFrom}
 use Rattle.fin_lex.proofs.Unique.{one_break, tokens_or_break}
 use Rattle.fin_text.specs.Text.{text_of_lines}
-use Rattle.fin_engine.specs.Cut.{IsBefore, IsCut, IsEndless, lines}
+use Rattle.fin_engine.specs.Cut.{IsBefore, IsCut, IsEndless}
 use Rattle.fin_engine.specs.Verdict.{Accepts, Breaks}
 
 -- where a list is cut at the first such element, it is cut there alone

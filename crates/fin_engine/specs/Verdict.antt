@@ -1,8 +1,7 @@
 -- The verdict on a job: the first rule that it breaks, with its line, or that it breaks none.
-use Rattle.std.specs.Prelude.{◌≡◌, ℕ, List, Result, Ok, Err}
+use Rattle.std.specs.Prelude.{ℕ, List, Result, Ok, Err}
 use Rattle.fin_base.specs.declared.refusal.Fail.{Fail}
 use Rattle.fin_base.specs.declared.refusal.Fail.TheVariants.{Memory, Refused}
-use Rattle.fin_base.specs.declared.refusal.Refusal.{Refusal}
 use Rattle.fin_base.specs.declared.refusal.Rule.{Rule}
 use Rattle.fin_base.specs.declared.refusal.Rule.TheVariants.{J2, S1}
 use Rattle.fin_lex.specs.declared.token.Token.{Token}

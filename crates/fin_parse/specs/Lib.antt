@@ -1,5 +1,10 @@
+pub mod Classes
+pub mod Grammar
+pub mod Choices
+pub mod Syntax
+pub mod Reading
+pub mod Text
+pub mod Breaches
+pub mod Roles
 pub mod Names
-pub mod Lines
-pub mod FirstForm
-pub mod Parts
-pub mod Laws
+pub mod Leaves

@@ -1,15 +1,29 @@
-//! Reads a job of the first form, one loop over two dense vectors. A text is read where it is exactly the form's
-//! lines, and what is read is the only form that it is. Any other text is refused at the first line that departs.
+//! From tokens to programs.
 #![tactic(auto)]
 
-mod first_form;
-mod laws;
-mod lines;
+mod breaches;
+mod class;
+mod counts;
+mod cursor;
+mod grammar;
+mod heads;
 mod names;
-
-pub use first_form::{FirstForm, Operand, read_first_form};
-pub use laws::{departs_once, is_form_by_lines, is_one_form_at_most, jobs_keep, keeps_fewer};
-pub use lines::FormFail;
-
+mod reader;
+mod roles;
+mod scope;
+mod syntax;
 #[cfg(test)]
 mod tests;
+mod text;
+mod tree;
+mod trees;
+
+pub use class::{Class, class_of};
+pub use cursor::Cursor;
+pub use grammar::{Form, Phrase, Symbol, form_at, row_of};
+pub use reader::read_phrase;
+pub use scope::{Bound, Tensor};
+pub use syntax::read_syntax;
+pub use text::read_text;
+pub use tree::{Room, Stop, Tree};
+pub use trees::Text;

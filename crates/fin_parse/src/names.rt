@@ -1,90 +1,100 @@
-//! The names of tensors and variables.
-ghost use Rattle.std.specs.Prelude.{◌≡◌, ◌↔◌, IsTrue, IfOk, Contains, map, length, ◌<◌};
-ghost use Rattle.std.specs.List.{AllPass, list_any};
-ghost use Rattle.std.specs.Str.{bytes_eq};
-ghost use Rattle.fin_parse.specs.Names.{IsName, begins_name, continues_name, reserved_words};
+//! What a name stands for, and the breach where it stands for nothing that may stand there.
+ghost use Rattle.std.specs.Prelude.{◌≡◌};
+ghost use Rattle.fin_parse.specs.Names as spec;
 
-use fin_tensor::Name;
-use std::alloc::{AllocError, Global};
+use crate::scope::{Bound, Tensor};
+use fin_base::{Refusal, Rule};
+use fin_lex::Token;
 
-const MOST_BYTES: usize = 32;
-
-// The words that are no names.
-const RESERVED: [&[u8]; 28] = [
-    b"in", b"out", b"tmp", b"fill", b"shape", b"for", b"par", b"if", b"let", b"freeze", b"thaw",
-    b"walk", b"gallop", b"follow", b"min", b"max", b"and", b"or", b"xor", b"dense", b"list",
-    b"runs", b"band", b"dict", b"element", b"atomic", b"mutex", b"shard",
-];
-
-/// Tells whether a word is a name that is none of the earlier ones.
-pub(crate) fn is_new_name(word: &[u8], earlier: &[&Name]) -> bool
-    ensures { IsTrue result ↔ (IsName word.now × ¬ (Contains (map (λ n. n.now) earlier.now) word.now)) }
+fn text_at(text: &[u8], token: Token) -> &[u8]
+    ensures value { result.now ≡ spec.text_at text.now token }
 {
-    is_name(word) && !is_among(word, earlier)
+    let to = text.len().min(token.to as usize);
+    let from = to.min(token.from as usize);
+    &text[from..to]
 }
 
-/// Tells whether a word is a name: a letter or `_`, then letters, digits or `_`, at most 32 bytes and not
-/// reserved.
-pub(crate) fn is_name(word: &[u8]) -> bool
-    ensures { IsTrue result ↔ IsName word.now }
+pub(crate) fn is_same(text: &[u8], a: Token, b: Token) -> bool
+    ensures value { result ≡ spec.is_same text.now a b }
 {
-    !word.is_empty()
-        && word.len() <= MOST_BYTES
-        && begins_name(word[0])
-        && all_continue(word)
-        && !is_reserved(word)
+    text_at(text, a) == text_at(text, b)
 }
 
-/// The name of these bytes.
-pub(crate) fn name_from(alloc: Global, bytes: &[u8]) -> Result<Name, AllocError>
-    ensures { IfOk result (λ name. name ≡ bytes.now) }
+pub(crate) fn tensor_named(text: &[u8], tensors: &[Tensor], name: Token) -> Option<Tensor>
+    ensures value { result ≡ spec.tensor_named text.now tensors.now name }
 {
-    let mut name = Name::new(alloc);
-    for byte in bytes {
-        name.push(*byte)?;
+    for tensor in tensors {
+        if is_same(text, tensor.name, name) {
+            return Some(*tensor);
+        }
     }
-    Ok(name)
+    None
 }
 
-fn begins_name(byte: u8) -> bool
-    ensures { result ≡ begins_name byte }
+pub(crate) fn bound_named(text: &[u8], bound: &[Bound], name: Token) -> Option<Bound>
+    ensures value { result ≡ spec.bound_named text.now bound.now name }
 {
-    byte.is_ascii_alphabetic() || byte == b'_'
+    for variable in bound {
+        if is_same(text, variable.name, name) {
+            return Some(*variable);
+        }
+    }
+    None
 }
 
-/// Tells whether a byte can stand in a name.
-pub(crate) fn continues_name(byte: u8) -> bool
-    ensures { result ≡ continues_name byte }
+pub(crate) fn breach(rule: Rule, name: Token) -> Option<Refusal>
+    ensures value { result ≡ spec.first_of (spec.breach rule name) }
 {
-    byte.is_ascii_alphanumeric() || byte == b'_'
+    Some(Refusal {
+        rule,
+        line: name.line,
+    })
 }
 
-fn all_continue(bytes: &[u8]) -> bool
-    ensures { IsTrue result ↔ AllPass continues_name bytes.now }
+pub(crate) fn tensor_use(name: Token, count: Option<u64>, tensor: Option<Tensor>) -> Option<Refusal>
+    ensures value { result ≡ spec.first_of (spec.tensor_use name count tensor) }
 {
-    bytes.iter().all(|byte| continues_name(*byte))
+    match tensor {
+        None => breach(Rule::N1, name),
+        Some(tensor) => match count {
+            None => None,
+            Some(count) => {
+                if count == tensor.levels {
+                    None
+                } else {
+                    breach(Rule::N3, name)
+                }
+            }
+        },
+    }
 }
 
-fn is_reserved(word: &[u8]) -> bool
-    ensures { IsTrue result ↔ Contains reserved_words word.now }
+pub(crate) fn variable_use(name: Token, variable: Option<Bound>) -> Option<Refusal>
+    ensures value { result ≡ spec.first_of (spec.variable_use name variable) }
 {
-    is_listed(word, &RESERVED)
+    match variable {
+        None => breach(Rule::N1, name),
+        Some(_) => None,
+    }
 }
 
-fn is_listed(word: &[u8], words: &[&[u8]]) -> bool
-    ensures { IsTrue result ↔ Contains (map (λ w. w.now) words.now) word.now }
+pub(crate) fn loop_use(name: Token, variable: Option<Bound>) -> Option<Refusal>
+    ensures value { result ≡ spec.first_of (spec.loop_use name variable) }
 {
-    words.contains(&word)
+    match variable {
+        None => breach(Rule::N1, name),
+        Some(variable) => {
+            if variable.is_loop {
+                None
+            } else {
+                breach(Rule::N1, name)
+            }
+        }
+    }
 }
 
-fn is_among(word: &[u8], names: &[&Name]) -> bool
-    ensures { result ≡ list_any (λ n. bytes_eq n.now word.now) names.now }
+pub(crate) fn binding(name: Token, taken: bool) -> Option<Refusal>
+    ensures value { result ≡ spec.first_of (spec.binding name taken) }
 {
-    names.iter().any(|name| is_spelled(name, word))
-}
-
-fn is_spelled(name: &Name, word: &[u8]) -> bool
-    ensures { result ≡ bytes_eq name.now word.now }
-{
-    name.as_slice() == word
+    if taken { breach(Rule::N2, name) } else { None }
 }

@@ -1,103 +1,131 @@
-//! Which texts are jobs of the first form, and where others depart.
-use crate::{FormFail, read_first_form};
-use std::alloc::{AllocError, Global};
+use crate::read_syntax;
+use fin_base::{Fail as Refused, Rule};
+use fin_lex::lex;
+use std::alloc::Global;
+use std::test::Fail;
 
-const JOB: [&[u8]; 18] = [
-    b"in a dense element",
-    b"in _b2 dense element",
-    b"out y dense element",
-    b"y .= 0",
-    b"for i { y[i] += a[i] * _b2[i] }",
-    b"%%",
-    b"tensor a",
-    b"format dense element",
-    b"fill 0",
-    b"shape 3",
-    b"val 1 -2 9223372036854775807",
-    b"end",
-    b"tensor _b2",
-    b"format dense element",
-    b"fill 0",
-    b"shape 0",
-    b"val",
-    b"end",
-];
-
-// A line of the job, what stands in its place, and the first line that departs then.
-const CHANGES: [(usize, &[u8], u32); 26] = [
-    (1, b"in  a dense element", 1),
-    (1, b"in for dense element", 1),
-    (1, b"in 2a dense element", 1),
-    (1, b"in \xc3\xa9 dense element", 1),
-    (1, b"in abcdefghijklmnopqrstuvwxyz0123456 dense element", 1),
-    (1, b"in abcdefghijklmnopqrstuvwxyz012345 dense element", 5),
-    (2, b"in a dense element", 2),
-    (3, b"out a dense element", 3),
-    (3, b"in y dense element", 3),
-    (4, b"a .= 0", 4),
-    (5, b"for  i { y[i] += a[i] * _b2[i] }", 5),
-    (5, b"for y { y[y] += a[y] * _b2[y] }", 5),
-    (5, b"for i { y[i] += a[i] * _b2[j] }", 5),
-    (6, b"%% ", 6),
-    (7, b"tensor _b2", 7),
-    (10, b"shape 03", 10),
-    (10, b"shape 1099511627777", 10),
-    (10, b"shape 1099511627776", 11),
-    (11, b"val 1 -2", 11),
-    (11, b"val 1 -0 2", 11),
-    (11, b"val 1 -2 9223372036854775808", 11),
-    (11, b"val 1 -9223372036854775808 2 ", 11),
-    (12, b"end\n", 13),
-    (17, b"val ", 17),
-    (18, b"end\n", 19),
-    (18, b"end\n\0", 19),
-];
-
-// The job with another line in the place of one.
-fn changed(alloc: Global, number: usize, other: &[u8]) -> Result<Vec<u8>, AllocError> {
+/// A text by its pieces, each repeated.
+fn text_of(alloc: Global, pieces: &[(&[u8], usize)]) -> Result<Vec<u8>, Refused> {
     let mut text = Vec::new(alloc);
-    for (at, line) in JOB.iter().enumerate() {
-        let line = if at.wrapping_add(1) == number {
-            other
-        } else {
-            *line
-        };
-        text.extend_from_slice(line)?;
-        text.push(b'\n')?;
+    for (piece, count) in pieces {
+        for _ in 0..*count {
+            text.extend_from_slice(piece)?;
+        }
     }
     Ok(text)
 }
 
+/// The line where the syntax of a text is refused, and whether that is for its nesting; 0 where it is read.
+fn verdict(alloc: Global, pieces: &[(&[u8], usize)]) -> Result<(bool, u32), Refused> {
+    let text = text_of(alloc, pieces)?;
+    if text.len() > 4096 {
+        return Ok((false, 9999));
+    }
+    let newlines = text.iter().filter(|b| **b == b'\n').count();
+    let tokens = lex(alloc, &text, 1)?;
+    match read_syntax(alloc, &tokens, newlines as u32 + 1) {
+        Ok(_trees) => Ok((false, 0)),
+        Err(Refused::Refused(refusal)) => Ok((refusal.rule == Rule::S3, refusal.line)),
+        Err(e) => Err(e),
+    }
+}
+
 #[test]
-fn departs_at_the_first_line_that_differs(rt: HostRuntime) -> Result<(), FormFail> {
-    for (number, other, line) in CHANGES {
-        let text = changed(rt.alloc(), number, other)?;
-        match read_first_form(rt.alloc(), &text) {
-            Err(FormFail::Departs(first)) => assert_eq!(rt; first, line, "line {number}"),
-            Err(fail) => return Err(fail),
-            Ok(_) => assert!(rt; false, "line {number}"),
-        }
+fn reads_texts_of_the_grammar(rt: HostRuntime) -> Result<(), Fail> {
+    let table: [&[u8]; 8] = [
+        b"",
+        b"out s element\ns .= 0\ns[] += 1\n",
+        b"in A dense list element\nout y dense element fill -9223372036854775808 shape 3\npar i { for j in 0..3 { y[i] += A[i, gallop(j)] * x[~(i+j-1)] } }\n",
+        b"s[] = 1 + -9223372036854775808\n",
+        b"s[] = - - 9223372036854775808\n",
+        b"s[] = min(1, max(2, 3)) == x[] * 2\n",
+        b"x[i-1,2] += y[~(2),walk(~(i+1)),k+0]",
+        b"if x { let y = 2 { freeze s } } thaw s { }",
+    ];
+    for text in table {
+        assert_eq!(rt; verdict(rt.alloc(), &[(text, 1)])?, (false, 0));
     }
     Ok(())
 }
 
 #[test]
-fn reads_a_job(rt: HostRuntime) -> Result<(), FormFail> {
-    let text = changed(rt.alloc(), 0, b"")?;
-    let form = read_first_form(rt.alloc(), &text)?;
-    assert_eq!(rt; form.left.name.as_slice(), b"a".as_slice());
-    assert_eq!(rt; form.left.extent, 3);
-    assert_eq!(rt; form.left.values.as_slice(), [1, -2, i64::MAX].as_slice());
-    assert_eq!(rt; form.right.name.as_slice(), b"_b2".as_slice());
-    assert_eq!(rt; form.right.extent, 0);
-    assert_eq!(rt; form.right.values.len(), 0);
-    assert_eq!(rt; form.product.as_slice(), b"y".as_slice());
-    assert_eq!(rt; form.index.as_slice(), b"i".as_slice());
-    let unended = &text[..text.len().saturating_sub(1)];
-    match read_first_form(rt.alloc(), unended) {
-        Err(FormFail::Departs(first)) => assert_eq!(rt; first, 18),
-        Err(fail) => return Err(fail),
-        Ok(_) => assert!(rt; false),
+fn refuses_the_first_token_that_goes_on_with_nothing(rt: HostRuntime) -> Result<(), Fail> {
+    let table: [(&[u8], u32); 15] = [
+        (b"out s element\ns[ += 1\n", 2),
+        (b"in A element\nshape 3\n", 2),
+        (b"s[] = 1 -\n9223372036854775808\n", 2),
+        (b"s[] = 1 < 2\n< 3\n", 2),
+        (b"if x { let y = 2 { freeze s } }\n}", 2),
+        (b"for i in 0..3 {\n{", 2),
+        (b"tmp w runs element fill\n", 2),
+        (b"x[i\n+\nj] += 1", 3),
+        (b"s .= -\n-1", 2),
+        (b"let x\n== 3 { }", 2),
+        (b"y[] = (1", 1),
+        (b"s[] += -x[\n-", 2),
+        (b"s[] += x[walk(\n2", 2),
+        (b"s[] += x[i+\ni]", 2),
+        (b"s[] = 1 s\n", 2),
+    ];
+    for (text, line) in table {
+        assert_eq!(rt; verdict(rt.alloc(), &[(text, 1)])?, (false, line));
+    }
+    Ok(())
+}
+
+#[test]
+fn keeps_the_limits_of_nesting(rt: HostRuntime) -> Result<(), Fail> {
+    let table: [(&[(&[u8], usize)], bool, u32); 14] = [
+        (
+            &[(b"s[] = ", 1), (b"(", 64), (b"1", 1), (b")", 64)],
+            false,
+            0,
+        ),
+        (
+            &[(b"s[] = ", 1), (b"(", 64), (b"\n(1", 1), (b")", 65)],
+            true,
+            2,
+        ),
+        (
+            &[(b"s[] = ", 1), (b"(", 64), (b"-1", 1), (b")", 64)],
+            false,
+            0,
+        ),
+        (
+            &[(b"s[] = ", 1), (b"(", 64), (b"\n-x", 1), (b")", 64)],
+            true,
+            2,
+        ),
+        (&[(b"s[] = ", 1), (b"(", 64), (b"\n-\n)", 1)], true, 2),
+        (
+            &[
+                (b"s[] = ", 1),
+                (b"(", 64),
+                (b"-\n9223372036854775808", 1),
+                (b")", 64),
+            ],
+            false,
+            0,
+        ),
+        (
+            &[(b"s[] = ", 1), (b"(", 64), (b"x\n[]", 1), (b")", 64)],
+            true,
+            2,
+        ),
+        (&[(b"for i { ", 16), (b"}", 16)], false, 0),
+        (&[(b"for i { ", 16), (b"\npar i", 1)], true, 2),
+        (&[(b"{", 64), (b"if x\n{", 1)], true, 2),
+        (&[(b"out s element\n", 64), (b"s .= 0", 1)], false, 0),
+        (&[(b"out s element\n", 65)], true, 65),
+        (&[(b"out s element\n", 64), (b"s .= 0\nout", 1)], false, 66),
+        (
+            &[(b"out s element\n", 63), (b"out element\n", 2)],
+            false,
+            64,
+        ),
+    ];
+    for (pieces, deep, line) in table {
+        assert_eq!(rt; verdict(rt.alloc(), pieces)?, (deep, line));
     }
     Ok(())
 }

@@ -7,10 +7,7 @@ use Rattle.std.proofs.lemmas.List.{append-nil, take-append-drop, flat_map_more}
 use Rattle.std.proofs.lemmas.Int.{to_z-of_z}
 use Rattle.std.proofs.lemmas.Grind.{flat_map-append}
 use Rattle.std.proofs.Math.Seq.{take-append_seam, take-suc}
-use Rattle.std.specs.Fmt.{decimal}
 use Rattle.fin_text.specs.Numbers.{spaced, spelled}
-use Rattle.fin_text.specs.Text.{vector_head, vector_text}
-use Rattle.fin_text.specs.declared.storage.Storage.{Storage}
 use Rattle.fin_ports.proofs.Parts.{part_of_more}
 use Rattle.fin_text.specs.Putting.{Waits}
 
@@ -54,22 +51,6 @@ pub value_waits : (a b : Option (List ℕ)) (text waiting after : List ℕ) (vs 
 value_waits a b text waiting after vs i within fits waits e =
     let read : after ≡ waiting ++ 32 ∷ spelled (get_or vs i (pos 0)) = e ∙ ap (λ v. waiting ++ 32 ∷ spelled v) (to_z-of_z w64 (get_or vs i (pos 0)) fits) in
     subst (λ t. Waits a b t after) (next_value text vs i within) (more_waits a b (text ++ spaced (take i vs)) waiting (32 ∷ spelled (get_or vs i (pos 0))) after waits read)
-
--- a text in five parts
-pub in_five : {s₁ s₂ s₃ s₄ s₅ : List ℕ} (a b c d e : List ℕ) → s₁ ≡ a → s₂ ≡ s₁ ++ b → s₃ ≡ s₂ ++ c → s₄ ≡ s₃ ++ d → s₅ ≡ s₄ ++ e → s₅ ≡ a ++ b ++ c ++ d ++ e
-in_five a b c d e p q r s t = t ∙ ap (λ l. l ++ e) (s ∙ ap (λ l. l ++ d) (r ∙ ap (λ l. l ++ c) (q ∙ ap (λ l. l ++ b) p)))
-
--- the lines of a vector are its head, its values and its last line
-
-six_lines : (a name b c d space size e vals f nl : List ℕ)
-    → (a ++ name) ++ nl ++ (b ++ nl ++ (c ++ nl ++ ((d ++ ((space ++ size) ++ [])) ++ nl ++ ((e ++ vals) ++ nl ++ (f ++ nl ++ [])))))
-    ≡ a ++ name ++ (nl ++ b ++ nl ++ c ++ nl ++ d ++ space) ++ size ++ (nl ++ e) ++ vals ++ (nl ++ f ++ nl)
-six_lines a name b c d space size e vals f nl = simp (append_assoc, append-nil)
-
-pub by_lines : (name : List ℕ) (storage : Storage) → vector_text name storage ≡ vector_head name storage.extent ++ spaced storage.val ++ codes "\nend\n"
-unfolding vector_text vector_head
-by_lines name storage =
-    six_lines (codes "tensor ") name (codes "format dense element") (codes "fill 0") (codes "shape") (32 ∷ []) (decimal storage.extent) (codes "val") (spaced storage.val) (codes "end") (10 ∷ [])
 
 -- what a failure leaves
 pub at_failure : {E : Type 0} (P : Unit {0} → Type 0) {Q : Type 0} (r : Result (Unit {0}) E) → IsErr r → Q → MatchResult r P (λ _. Q)

@@ -1,7 +1,5 @@
 -- The text of a tensor, by its lines.
 use Rattle.std.specs.Prelude.{ℕ, ℤ, List, [], ◌∷◌, ◌++◌, flat_map, codes}
-use Rattle.std.specs.Fmt.{decimal}
-use Rattle.fin_text.specs.declared.storage.Storage.{Storage}
 use Rattle.fin_text.specs.Numbers.{spaced, spaced_sizes}
 
 -- lines, each ended by a newline
@@ -18,11 +16,3 @@ vector_lines name extent values =
     ∷ (codes "val" ++ spaced values)
     ∷ codes "end"
     ∷ []
-
--- the text of a stored vector
-unfoldable pub vector_text : List ℕ → Storage → List ℕ
-vector_text name storage = text_of_lines (vector_lines name storage.extent storage.val)
-
--- its front, up to the values
-unfoldable pub vector_head : List ℕ → ℕ → List ℕ
-vector_head name extent = codes "tensor " ++ name ++ codes "\nformat dense element\nfill 0\nshape " ++ decimal extent ++ codes "\nval"

@@ -7,9 +7,8 @@ mod names;
 mod numbers;
 mod pieces;
 mod read;
-mod storage;
 mod take;
-pub mod tensors;
+mod tensors;
 #[cfg(test)]
 mod tests;
 mod words;
@@ -17,6 +16,7 @@ mod write;
 
 pub use names::{is_name, name_from};
 pub use numbers::{read_size, read_value};
-pub use storage::Storage;
+pub use read::{Given, read_tensors};
+pub use tensors::write_tensor;
 pub use words::{read_sizes, read_values};
-pub use write::{WriteFail, write_tensor};
+pub use write::WriteFail;

@@ -11,7 +11,6 @@ ghost use Rattle.fin_text.specs.Text.{text_of_lines};
 ghost use Rattle.fin_text.specs.declared.write.WriteFail.TheVariants.{Fault};
 
 use crate::pieces::{Line, Numbers, lines_of};
-pub use crate::read::{Given, read_tensors};
 use crate::write::{WriteFail, put_piece, put_values};
 use fin_ports::{Sink, put_all};
 use fin_tensor::{Name, Storage};

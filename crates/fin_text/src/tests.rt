@@ -1,11 +1,10 @@
 ghost use Rattle.std.specs.Prelude.{◌≡◌, IfOk};
 
-use crate::tensors::{self, read_tensors};
-use crate::{Storage, read_size, read_sizes, read_value, read_values, write_tensor};
+use crate::{read_size, read_sizes, read_tensors, read_value, read_values, write_tensor};
 use fin_base::Fail::Refused;
 use fin_base::Rule;
 use fin_ports::MemSink;
-use fin_tensor::Seq;
+use fin_tensor::{Draft, Format, Level, Part, Seq, Wrap};
 use std::alloc::{AllocError, Global};
 use std::test::Fail;
 
@@ -45,16 +44,27 @@ fn reads_one_spelling_of_a_number(rt: HostRuntime) {
 #[test]
 fn writes_a_vector_and_reads_its_values(rt: HostRuntime) -> Result<(), Fail> {
     let alloc = rt.alloc();
-    let val = [5, 0, -7];
-    let storage = Storage {
-        extent: 3,
-        val: list(alloc, &val)?,
-    };
     let mut sink = MemSink::new(alloc, 100, 16, Vec::new(alloc))?;
+    let format = Format {
+        levels: list(alloc, &[Level::List])?,
+        wrap: Wrap::Bare,
+        fill: 0,
+    };
+    let draft = Draft::new(alloc, format, list(alloc, &[6])?);
+    let (ptr, idx) = ([0, 2], [2, 4]);
+    assert!(rt; draft.is_ptr(&ptr));
+    assert!(rt; draft.is_idx(&ptr, &idx));
+    let ptr = list(alloc, &ptr)?;
+    let idx = list(alloc, &idx)?;
+    let draft = draft.with(Part::Keys { ptr, idx })?;
+    let val = [5, -7];
+    assert!(rt; draft.is_val(&val));
+    let storage = draft.finish(list(alloc, &val)?);
     assert!(rt; write_tensor(alloc, &mut sink, &list(alloc, b"y")?, &storage).is_ok());
-    let text: &[u8] = b"tensor y\nformat dense element\nfill 0\nshape 3\nval 5 0 -7\nend\n";
+    let text: &[u8] =
+        b"tensor y\nformat list element\nfill 0\nshape 6\nptr 0 0 2\nidx 0 2 4\nval 5 -7\nend\n";
     assert_eq!(rt; sink.taken(), text);
-    let values = read_values(alloc, b" 5 0 -7")?;
+    let values = read_values(alloc, b" 5 -7")?;
     assert!(rt; values.is_some_and(|values| values.as_slice() == val.as_slice()));
     assert!(rt; read_values(alloc, b" 5  0")?.is_none());
     assert!(rt; read_sizes(alloc, b" 3 -7")?.is_none());
@@ -70,7 +80,7 @@ fn reads_and_writes_a_tensor(rt: HostRuntime) -> Result<(), Fail> {
     let mut sink = MemSink::new(alloc, 100, 16, Vec::new(alloc))?;
     for (name, tensor) in given.as_slice() {
         assert_eq!(rt; tensor.line, 4);
-        assert!(rt; tensors::write_tensor(alloc, &mut sink, name, &tensor.storage).is_ok());
+        assert!(rt; write_tensor(alloc, &mut sink, name, &tensor.storage).is_ok());
     }
     assert_eq!(rt; sink.taken(), text);
     Ok(())

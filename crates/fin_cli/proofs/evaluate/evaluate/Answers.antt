@@ -1,9 +1,7 @@
-use Rattle.std.proofs.Common.{rules, ◌≡◌, ◌∙◌, sym, ap, ap₂, refl, length, arith, map, ◌++◌, ◌∷◌, [], w64, FitsSigned, pos, add_comm}
+use Rattle.std.proofs.Common.{rules, ◌≡◌, ◌∙◌, sym, ap, ap₂, length, arith, map, ◌++◌, ◌∷◌, [], w64, FitsSigned}
 use Rattle.std.specs.List.{range_with_len}
 use Rattle.std.proofs.lemmas.Int.{to_z-of_z}
 use Rattle.std.proofs.lemmas.List.FromFn.{map-range_with_len_more}
-use Rattle.fin_base.specs.Words.{apply}
-use Rattle.fin_base.specs.declared.reduce.Reduce.TheVariants.{Add}
 use Rattle.fin_cli.proofs.Turns.{evaluated_values, sum_of_one}
 use Rattle.fin_cli.proofs.evaluate.evaluate.Goals as goal
 

@@ -1,8 +1,8 @@
-use Rattle.std.proofs.Common.{◌≡◌, refl}
+use Rattle.std.proofs.Common.{refl}
 use Rattle.fin_base.specs.declared.refusal.Rule.TheVariants.{S2, M1}
-use Rattle.fin_parse.proofs.FormLaws.{jobs_keep}
+use Rattle.fin_form.proofs.FormLaws.{jobs_keep}
 use Rattle.fin_cli.specs.Due.{IsDueForm}
-use Rattle.fin_cli.proofs.Comings.{refuses_comes, whole_left, whole_right}
+use Rattle.fin_cli.proofs.Comings.{refuses_comes, small_extent, whole_left, whole_right}
 use Rattle.fin_cli.proofs.modes.run.Goals as goal
 
 pub returns-in-Err-Departs-clause-comes : goal.returns-in-Err-Departs-clause-comes
@@ -22,6 +22,8 @@ run_form-requires-clause-left g c = whole_left c.args.job.now c.in-Ok.form c.in-
 pub run_form-requires-clause-right : goal.run_form-requires-clause-right
 run_form-requires-clause-right g c = whole_right c.args.job.now c.in-Ok.form c.in-Ok.ensures.0
 
+pub run_form-requires-clause-small : goal.run_form-requires-clause-small
+run_form-requires-clause-small g c = small_extent c.args.job.now c.in-Ok.form c.in-Ok.ensures.0
+
 pub returns-clause-comes : goal.returns-clause-comes
-returns-clause-comes g c = λ source.
-    c.run_form.ensures.comes source c.args.job.now (IsDueForm.runs c.in-Ok.form c.in-Ok.ensures.0 c.if-form.false)
+returns-clause-comes g c = λ source. c.run_form.ensures.comes source c.args.job.now c.in-Ok.ensures.0

@@ -1,6 +1,5 @@
 use Rattle.std.proofs.Common.{refl}
 use Rattle.fin_cli.specs.Due.{IsDueThen}
-use Rattle.fin_cli.specs.Ends.{across}
 use Rattle.fin_cli.proofs.Comings.{comes_failed, comes_then}
 use Rattle.fin_cli.proofs.modes.serve_job.Goals as goal
 

@@ -1,4 +1,4 @@
-use Rattle.std.proofs.Common.{◌≡◌, ap, refl, subst, sym, [], IsOk, Bool}
+use Rattle.std.proofs.Common.{ap, refl, subst, sym, [], IsOk, Bool}
 use Rattle.fin_base.specs.declared.refusal.Rule.TheVariants.{S2}
 use Rattle.fin_words.specs.declared.mode.Mode.{Mode}
 use Rattle.fin_cli.specs.Due.{IsDueMode, reads_job}

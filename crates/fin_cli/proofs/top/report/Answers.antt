@@ -1,4 +1,4 @@
-use Rattle.std.proofs.Common.{◌∙◌, subst, arith, sym, ap, ◌≤◌}
+use Rattle.std.proofs.Common.{◌∙◌, subst, arith, ◌≤◌}
 use Rattle.fin_cli.specs.Due.{IsDueMode}
 use Rattle.fin_cli.specs.Stops.{Comes}
 use Rattle.fin_cli.proofs.Comings.{low_due}

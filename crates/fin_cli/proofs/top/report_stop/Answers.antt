@@ -1,4 +1,4 @@
-use Rattle.std.proofs.Common.{subst, ◌⊎◌, []}
+use Rattle.std.proofs.Common.{subst}
 use Rattle.std.specs.Prelude.{Err}
 use Rattle.fin_cli.specs.Due.{IsDueMode}
 use Rattle.fin_cli.specs.Stops.{Comes}

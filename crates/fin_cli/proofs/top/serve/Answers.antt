@@ -1,9 +1,9 @@
-use Rattle.std.proofs.Common.{◌≡◌, ◌∙◌, ◌≤◌, refl, sym, subst, ap, [], arith, map, Bool}
+use Rattle.std.proofs.Common.{◌≡◌, ◌∙◌, ◌≤◌, refl, sym, subst, [], arith, map}
 use Rattle.std.specs.Prelude.{Some, None, Option, string_bytes, IsOk}
 use Rattle.std.proofs.KnownBytes.{Appends-nil}
 use Rattle.fin_words.specs.Reading.{reading}
 use Rattle.fin_words.specs.declared.mode.Asked.{Asked}
-use Rattle.fin_cli.specs.Due.{IsDue, IsDueMode, reads, unread}
+use Rattle.fin_cli.specs.Due.{IsDue, reads, unread}
 use Rattle.fin_cli.specs.Ends.{Ends, Reads, across}
 use Rattle.fin_cli.proofs.Endings.{ends_told}
 use Rattle.fin_cli.proofs.Jobs.{finished_by, job_of, no_job}

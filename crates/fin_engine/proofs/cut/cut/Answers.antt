@@ -1,4 +1,4 @@
-use Rattle.std.proofs.Common.{◌≡◌, ◌≢◌, ◌≤◌, ◌∷◌, ◌++◌, drop, length, codes, rules, arith, take, ◌+◌}
+use Rattle.std.proofs.Common.{◌≡◌, ◌≢◌, codes, rules, arith}
 use Rattle.std.proofs.lemmas.List.{take_rest}
 use Rattle.fin_engine.proofs.Cutting.{found, inside_line, next_line}
 use Rattle.fin_engine.proofs.cut.cut.Goals as goal

@@ -1,6 +1,6 @@
-use Rattle.std.proofs.Common.{◌≡◌, ◌∙◌, ◌≢◌, ◌-◌, drop, length, take, codes, rules}
+use Rattle.std.proofs.Common.{◌∙◌, ◌≢◌, ◌-◌, drop, length, take, codes, rules}
 use Rattle.std.proofs.lemmas.List.{take_rest}
-use Rattle.fin_engine.proofs.Cutting.{endless, found_last}
+use Rattle.fin_engine.proofs.Cutting.{endless}
 use Rattle.fin_engine.proofs.cut.cut_at_end.Goals as goal
 
 pub returns-else-eq-clause-parts : goal.returns-else-eq-clause-parts

@@ -1,12 +1,8 @@
-use Rattle.std.proofs.Common.{◌≡◌, List, ℕ, subst, sym}
+use Rattle.std.proofs.Common.{List, ℕ, subst, sym}
 use Rattle.fin_base.specs.declared.refusal.Fail.{Fail}
 use Rattle.fin_base.specs.declared.refusal.Fail.TheVariants.{Memory, Refused}
-use Rattle.fin_base.specs.declared.refusal.Rule.{Rule}
-use Rattle.fin_base.specs.declared.refusal.Rule.TheVariants.{S1}
-use Rattle.std.specs.Prelude.{Err, Vec}
-use Rattle.std.specs.declared.alloc.Global.{Global}
-use Rattle.fin_lex.specs.declared.token.Token.{Token}
-use Rattle.fin_lex.specs.Tokens.{BreaksAt, Outcome}
+use Rattle.std.specs.Prelude.{Err}
+use Rattle.fin_lex.specs.Tokens.{Outcome}
 use Rattle.fin_engine.specs.Cut.{IsCut}
 use Rattle.fin_engine.specs.Verdict.{Breaks, Checks}
 use Rattle.fin_engine.proofs.verdict.check.Goals as goal

@@ -1,0 +1,9 @@
+pub mod Words
+pub mod Splits
+pub mod Chains
+pub mod OneLine
+pub mod LineKinds
+pub mod VectorParts
+pub mod ProgramParts
+pub mod FormParts
+pub mod FormLaws

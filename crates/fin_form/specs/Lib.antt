@@ -1,0 +1,5 @@
+pub mod Names
+pub mod Lines
+pub mod FirstForm
+pub mod Parts
+pub mod Laws

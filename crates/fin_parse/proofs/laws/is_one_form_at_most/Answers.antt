@@ -1,5 +1,0 @@
-use Rattle.fin_parse.proofs.FormLaws.{one_form}
-use Rattle.fin_parse.proofs.laws.is_one_form_at_most.Goals as goal
-
-pub returns : goal.returns
-returns c = one_form
