@@ -22,7 +22,7 @@ one_cut (b ∷ x) y (b' ∷ x') y' h h' s s' e =
     (let p = r.0 in cc, r.1)
 
 module _ {A : Type 0} (word : A → List ℕ) (Fits : A → Type 0) where
-  words_end : (vs : List A) → EndsWord (words word vs)
+  pub words_end : (vs : List A) → EndsWord (words word vs)
   words_end [] = tt
   words_end (v ∷ vs) = refl
 

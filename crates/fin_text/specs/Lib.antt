@@ -1,5 +1,9 @@
 pub mod Numbers
+pub mod Names
 pub mod Text
 pub mod Tensors
 pub mod Pieces
 pub mod Putting
+pub mod OneProof
+pub mod DueLines
+pub mod Reading

@@ -74,13 +74,13 @@ fn decimal_up_to(digits: &[u8], most: u64) -> Option<u64>
 }
 
 // There is a digit, and no zero stands before others.
-fn leads_well(digits: &[u8]) -> bool
+pub(crate) fn leads_well(digits: &[u8]) -> bool
     ensures { IsTrue result ↔ LeadsWell digits.now }
 {
     digits.len() == 1 || digits.len() > 1 && digits[0] != b'0'
 }
 
-fn digit(byte: u8) -> Option<u64>
+pub(crate) fn digit(byte: u8) -> Option<u64>
     ensures { MatchOption result (10 ≤ digit_value byte) (λ d. (d < 10) × (d ≡ digit_value byte)) }
 {
     match byte {

@@ -1,6 +1,8 @@
 ghost use Rattle.std.specs.Prelude.{◌≡◌, IfOk};
 
-use crate::{read_size, read_sizes, read_value, read_values, write_tensor};
+use crate::{read_size, read_sizes, read_tensors, read_value, read_values, write_tensor};
+use fin_base::Fail::Refused;
+use fin_base::Rule;
 use fin_ports::MemSink;
 use fin_tensor::{Draft, Format, Level, Part, Seq, Wrap};
 use std::alloc::{AllocError, Global};
@@ -67,4 +69,57 @@ fn writes_a_vector_and_reads_its_values(rt: HostRuntime) -> Result<(), Fail> {
     assert!(rt; read_values(alloc, b" 5  0")?.is_none());
     assert!(rt; read_sizes(alloc, b" 3 -7")?.is_none());
     Ok(())
+}
+
+#[test]
+fn reads_and_writes_a_tensor(rt: HostRuntime) -> Result<(), Fail> {
+    let alloc = rt.alloc();
+    let text: &[u8] =
+        b"tensor A\nformat dense list element\nfill -1\nshape 2 3\nptr 1 0 2 3\nidx 1 0 2 1\nval 5 0 -7\nend\n";
+    let given = read_tensors(alloc, text, 4)?;
+    let mut sink = MemSink::new(alloc, 100, 16, Vec::new(alloc))?;
+    for (name, tensor) in given.as_slice() {
+        assert_eq!(rt; tensor.line, 4);
+        assert!(rt; write_tensor(alloc, &mut sink, name, &tensor.storage).is_ok());
+    }
+    assert_eq!(rt; sink.taken(), text);
+    Ok(())
+}
+
+#[test]
+fn refuses_the_first_bad_line(rt: HostRuntime) {
+    let alloc = rt.alloc();
+    let texts: [(&[u8], Rule, u32); 10] = [
+        (b"\n# a\ntensors A\n", Rule::X1, 3),
+        (b"tensor A\nformat list list elements\n", Rule::X1, 2),
+        (b"tensor A\nformat runs list element\n", Rule::X1, 2),
+        (b"tensor A\nformat element\nfill -0\n", Rule::X2, 3),
+        (b"tensor A\nformat element\nshape\n", Rule::X3, 3),
+        (b"tensor A\nformat element", Rule::X3, 2),
+        (
+            b"tensor A\nformat list element\nfill 0\nshape 3\nptr 1 0 2\n",
+            Rule::X3,
+            5,
+        ),
+        (
+            b"tensor A\nformat list element\nfill 0\nshape 3\nptr 0 0 2\nidx 0 1 1\n",
+            Rule::X4,
+            6,
+        ),
+        (
+            b"tensor A\nformat runs element\nfill 0\nshape 3\nptr 0 0 2\nstop 0 1 2\n",
+            Rule::X4,
+            6,
+        ),
+        (
+            b"tensor A\nformat element\nfill 0\nshape\nval 1\nend\ntensor A\n",
+            Rule::X5,
+            7,
+        ),
+    ];
+    for (text, rule, line) in texts {
+        let refused =
+            matches!(read_tensors(alloc, text, 1), Err(Refused(at)) if at.rule == rule && at.line == line);
+        assert!(rt; refused, "at {text:?}");
+    }
 }

@@ -2,10 +2,11 @@
 ghost use Rattle.std.specs.Prelude.{◌≡◌, ℕ, List, IfOk};
 ghost use Rattle.std.specs.Fmt.{decimal};
 ghost use Rattle.fin_base.specs.Words.{IsWord};
+ghost use Rattle.fin_text.specs.Tensors.{level_word};
 ghost use Rattle.fin_text.specs.Numbers.{IsSize, IsSpelling, ReadsWord, ReadsWords, IsFirstWord, spelled};
 
 use crate::numbers::{read_size, read_value};
-use fin_tensor::{Nums, Seq, Vals};
+use fin_tensor::{Level, Levels, Nums, Seq, Vals};
 use std::alloc::{AllocError, Global};
 
 // A number with one spelling.
@@ -39,6 +40,30 @@ impl Spelled for i64 {
     fn read(text: &[u8]) -> Option<i64> {
         read_value(text)
     }
+}
+
+impl Spelled for Level {
+    ghost word = { level_word };
+
+    ghost Fits = { λ _. Unit {0} };
+
+    fn read(text: &[u8]) -> Option<Level> {
+        match text {
+            b"dense" => Some(Level::Dense),
+            b"list" => Some(Level::List),
+            b"runs" => Some(Level::Runs),
+            b"band" => Some(Level::Band),
+            b"dict" => Some(Level::Dict),
+            _ => None,
+        }
+    }
+}
+
+/// The levels there.
+pub(crate) fn read_levels(alloc: Global, rest: &[u8]) -> Result<Option<Levels>, AllocError>
+    ensures { IfOk result (ReadsWords level_word (λ _. Unit {0}) rest.now) }
+{
+    read_words(alloc, rest)
 }
 
 /// The values that stand on a line behind its first word, where it is spelled so.
@@ -76,7 +101,7 @@ fn read_words<T: Spelled + Drop>(alloc: Global, line: &[u8]) -> Result<Option<Se
 }
 
 // The first word, up to a space or the end, and what follows it.
-fn split_word(line: &[u8]) -> (&[u8], &[u8])
+pub(crate) fn split_word(line: &[u8]) -> (&[u8], &[u8])
     ensures { IsFirstWord line.now result.0.now result.1.now }
 {
     let end = line

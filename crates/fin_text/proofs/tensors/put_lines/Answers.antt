@@ -1,4 +1,4 @@
-use Rattle.std.proofs.Common.{◌≡◌, ◌++◌, arith, ap, ◌∙◌, refl}
+use Rattle.std.proofs.Common.{◌++◌, arith, ap, ◌∙◌}
 use Rattle.fin_text.proofs.Waiting.{at_failure, front_put}
 use Rattle.fin_text.proofs.TensorLines.{other_lines, head_waits, line_waits, numbers_part, numbers_waits}
 use Rattle.fin_text.proofs.tensors.put_lines.Goals as goal

@@ -1,4 +1,4 @@
-use Rattle.std.proofs.Common.{arith, rules, ◌+◌, ◌++◌, drop, take}
+use Rattle.std.proofs.Common.{arith, ◌+◌, ◌++◌, drop, take}
 use Rattle.fin_text.specs.Numbers.{spaced_sizes}
 use Rattle.fin_text.specs.Putting.{Waits}
 use Rattle.fin_text.proofs.Waiting.{at_failure, front_put, part_put, some_put}

@@ -7,7 +7,7 @@ use Rattle.fin_text.specs.Text.{text_of_lines}
 use Rattle.fin_text.specs.declared.pieces.Line.{Line}
 use Rattle.fin_tensor.specs.declared.storage.Storage.{Storage}
 use Rattle.fin_text.specs.Tensors.{tensor_lines}
-use Rattle.fin_text.proofs.Waiting.{at_failure, part_of_front, front_put, part_put, all_put}
+use Rattle.fin_text.proofs.Waiting.{at_failure, part_of_front, part_put, all_put}
 use Rattle.fin_text.proofs.tensors.write_tensor.Goals as goal
 
 -- what is put is the text
