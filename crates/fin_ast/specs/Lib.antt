@@ -4,3 +4,5 @@ pub mod Headers
 pub mod Depth
 pub mod Bindings
 pub mod Scope
+pub mod Places
+pub mod Ties
