@@ -1,0 +1,2 @@
+//! Gives each dimension and loop of a program the number to which ties join it, or refuses.
+#![tactic(auto)]
