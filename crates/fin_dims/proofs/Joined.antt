@@ -59,8 +59,9 @@ uneven_stays shapes ties more w u = record {
 module _ {X : Type 0} (f : Node → X) (ties : List Tie) (kept : (t : Tie) → Contains ties t → f (Dimension t.dimension) ≡ f (OfLoop t.var)) where
   tied_alike : (a b : Node) → AreTied ties a b → f a ≡ f b
   tied_alike a b h = elim h.2 [
-    inl e ↦ ap f e.0 ∙ kept h.0 h.1 ∙ sym (ap f e.1)
-    | inr e ↦ ap f e.0 ∙ sym (kept h.0 h.1) ∙ sym (ap f e.1) ]
+    | inl e ↦ ap f e.0 ∙ kept h.0 h.1 ∙ sym (ap f e.1)
+    | inr e ↦ ap f e.0 ∙ sym (kept h.0 h.1) ∙ sym (ap f e.1)
+  ]
 
   chain_alike : (a b : Node) (p : List Node) → IsChain ties a p b → f a ≡ f b
   chain_alike a b [] e = ap f e

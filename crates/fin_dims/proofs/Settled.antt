@@ -91,8 +91,8 @@ module _ (shapes : Shapes) (ties : List Tie) (label : Node → Option ℕ) (numb
           second_known = p.1;
           differ = differ;
           joined = joined_on (ties ++ t ∷ []) (Dimension q.0) (Dimension t.dimension) (Dimension p.0)
-            (joined_back (ties ++ t ∷ []) (Dimension t.dimension) (Dimension q.0) (joined_stays ties (ties ++ t ∷ []) within (Dimension t.dimension) (Dimension q.0) q.2))
-            (joined_on (ties ++ t ∷ []) (Dimension t.dimension) (OfLoop t.var) (Dimension p.0) joined_new (joined_stays ties (ties ++ t ∷ []) within (OfLoop t.var) (Dimension p.0) p.2));
+              (joined_back (ties ++ t ∷ []) (Dimension t.dimension) (Dimension q.0) (joined_stays ties (ties ++ t ∷ []) within (Dimension t.dimension) (Dimension q.0) q.2))
+              (joined_on (ties ++ t ∷ []) (Dimension t.dimension) (OfLoop t.var) (Dimension p.0) joined_new (joined_stays ties (ties ++ t ∷ []) within (OfLoop t.var) (Dimension p.0) p.2));
         }
 
     -- a loop without label gets that of the dimension
@@ -100,79 +100,93 @@ module _ (shapes : Shapes) (ties : List Tie) (label : Node → Option ℕ) (numb
       anchor_stands : StandIn label'
       anchor_stands (Dimension d) k e = (Dimension d, sym (dimensions d) ∙ e, joined_itself (ties ++ t ∷ []) (Dimension d))
       anchor_stands (OfLoop v) k e = elim (same_or_not v t.var) [
-        inl same ↦ (Dimension t.dimension, at ∙ sym anchor ∙ ap (λ (x : ℕ). label' (OfLoop x)) (sym same) ∙ e, subst (λ (x : ℕ). AreJoined (ties ++ t ∷ []) (OfLoop x) (Dimension t.dimension)) (sym same) (joined_back (ties ++ t ∷ []) (Dimension t.dimension) (OfLoop t.var) joined_new))
-        | inr apart ↦ (OfLoop v, sym (others v apart) ∙ e, joined_itself (ties ++ t ∷ []) (OfLoop v)) ]
+        | inl same ↦ (Dimension t.dimension, at ∙ sym anchor ∙ ap (λ (x : ℕ). label' (OfLoop x)) (sym same) ∙ e, subst (λ (x : ℕ). AreJoined (ties ++ t ∷ []) (OfLoop x) (Dimension t.dimension)) (sym same) (joined_back (ties ++ t ∷ []) (Dimension t.dimension) (OfLoop t.var) joined_new))
+        | inr apart ↦ (OfLoop v, sym (others v apart) ∙ e, joined_itself (ties ++ t ∷ []) (OfLoop v))
+      ]
 
       anchor_keeps : (x : Tie) → HaveLabel label x → HaveLabel label' x
       anchor_keeps x h = elim (same_or_not x.var t.var) [
-        inl same ↦ absurd (none-some h.0 (sym none ∙ ap (λ (y : ℕ). label (OfLoop y)) (sym same) ∙ h.2))
-        | inr apart ↦ (h.0, dimensions x.dimension ∙ h.1, others x.var apart ∙ h.2) ]
+        | inl same ↦ absurd (none-some h.0 (sym none ∙ ap (λ (y : ℕ). label (OfLoop y)) (sym same) ∙ h.2))
+        | inr apart ↦ (h.0, dimensions x.dimension ∙ h.1, others x.var apart ∙ h.2)
+      ]
 
       pub settled_anchor : IsSettled shapes (ties ++ t ∷ []) label' numbers
       settled_anchor = record {
         kept = λ x m. elim (Contains-push_cases ties t x m) [
-          inl before ↦ anchor_keeps x (s.kept x before)
-          | inr e ↦ subst (HaveLabel label') e (c, dimensions t.dimension ∙ at, anchor) ];
+          | inl before ↦ anchor_keeps x (s.kept x before)
+          | inr e ↦ subst (HaveLabel label') e (c, dimensions t.dimension ∙ at, anchor)
+        ];
         sound = sound_moved label' anchor_stands;
         told = λ d n h. ap (number_at numbers) (dimensions d) ∙ s.told d n h;
         owned = λ a n e.
-          let k = labelled numbers (label' a) n e in
-          let p = anchor_stands a k.0 k.1 in
-          owned_moved a p.0 n p.2 (ap (number_at numbers) p.1 ∙ k.2);
+            let k = labelled numbers (label' a) n e in
+            let p = anchor_stands a k.0 k.1 in
+            owned_moved a p.0 n p.2 (ap (number_at numbers) p.1 ∙ k.2);
       }
 
     -- two classes become one
     module _ (label' : Node → Option ℕ) (numbers' : List (Option ℕ)) (from to : ℕ)
-      (ef : label (OfLoop t.var) ≡ Some from) (et : label (Dimension t.dimension) ≡ Some to) (apart : from ≢ to)
-      (moved : (a : Node) → label a ≡ Some from → label' a ≡ Some to)
-      (stays : (a : Node) (c : ℕ) → label a ≡ Some c → c ≢ from → label' a ≡ Some c)
-      (none : (a : Node) → label a ≡ None → label' a ≡ None)
-      (joint : get_or numbers' to None ≡ option_or (get_or numbers to None) (get_or numbers from None))
-      (others : (c : ℕ) → c ≢ to → get_or numbers' c None ≡ get_or numbers c None)
-      (agree : (m n : ℕ) → get_or numbers to None ≡ Some m → get_or numbers from None ≡ Some n → m ≡ n) where
+        (ef : label (OfLoop t.var) ≡ Some from) (et : label (Dimension t.dimension) ≡ Some to) (apart : from ≢ to)
+        (moved : (a : Node) → label a ≡ Some from → label' a ≡ Some to)
+        (stays : (a : Node) (c : ℕ) → label a ≡ Some c → c ≢ from → label' a ≡ Some c)
+        (none : (a : Node) → label a ≡ None → label' a ≡ None)
+        (joint : get_or numbers' to None ≡ option_or (get_or numbers to None) (get_or numbers from None))
+        (others : (c : ℕ) → c ≢ to → get_or numbers' c None ≡ get_or numbers c None)
+        (agree : (m n : ℕ) → get_or numbers to None ≡ Some m → get_or numbers from None ≡ Some n → m ≡ n) where
       merge_stands : StandIn label'
       merge_stands a c e = elim (told_or_not (label a)) [
-        inl h ↦ absurd (none-some c (sym (none a h) ∙ e))
+        | inl h ↦ absurd (none-some c (sym (none a h) ∙ e))
         | inr k ↦ elim (same_or_not k.0 from) [
-          inl same ↦ (Dimension t.dimension, et ∙ sym (moved a (k.1 ∙ ap Some same)) ∙ e,
+          | inl same ↦ (
+            Dimension t.dimension,
+            et ∙ sym (moved a (k.1 ∙ ap Some same)) ∙ e,
             joined_on (ties ++ t ∷ []) a (OfLoop t.var) (Dimension t.dimension)
-              (joined_stays ties (ties ++ t ∷ []) within a (OfLoop t.var) (s.sound a (OfLoop t.var) from (k.1 ∙ ap Some same) ef))
-              (joined_back (ties ++ t ∷ []) (Dimension t.dimension) (OfLoop t.var) joined_new))
-          | inr differ ↦ (a, k.1 ∙ sym (stays a k.0 k.1 differ) ∙ e, joined_itself (ties ++ t ∷ []) a) ] ]
+                (joined_stays ties (ties ++ t ∷ []) within a (OfLoop t.var) (s.sound a (OfLoop t.var) from (k.1 ∙ ap Some same) ef))
+                (joined_back (ties ++ t ∷ []) (Dimension t.dimension) (OfLoop t.var) joined_new),
+          )
+          | inr differ ↦ (a, k.1 ∙ sym (stays a k.0 k.1 differ) ∙ e, joined_itself (ties ++ t ∷ []) a)
+        ]
+      ]
 
       merge_keeps : (x : Tie) → HaveLabel label x → HaveLabel label' x
       merge_keeps x h = elim (same_or_not h.0 from) [
-        inl same ↦ (to, moved (Dimension x.dimension) (h.1 ∙ ap Some same), moved (OfLoop x.var) (h.2 ∙ ap Some same))
-        | inr differ ↦ (h.0, stays (Dimension x.dimension) h.0 h.1 differ, stays (OfLoop x.var) h.0 h.2 differ) ]
+        | inl same ↦ (to, moved (Dimension x.dimension) (h.1 ∙ ap Some same), moved (OfLoop x.var) (h.2 ∙ ap Some same))
+        | inr differ ↦ (h.0, stays (Dimension x.dimension) h.0 h.1 differ, stays (OfLoop x.var) h.0 h.2 differ)
+      ]
 
       merge_tells : (a : Node) (n : ℕ) → number_at numbers (label a) ≡ Some n → number_at numbers' (label' a) ≡ Some n
       merge_tells a n h =
           let k = labelled numbers (label a) n h in
           elim (same_or_not k.0 from) [
-            inl same ↦ ap (number_at numbers') (moved a (k.1 ∙ ap Some same)) ∙ joint
-              ∙ or_right (get_or numbers to None) (get_or numbers from None) n (ap (λ (x : ℕ). get_or numbers x None) (sym same) ∙ k.2) (λ m e. agree m n e (ap (λ (x : ℕ). get_or numbers x None) (sym same) ∙ k.2))
+            | inl same ↦ ap (number_at numbers') (moved a (k.1 ∙ ap Some same)) ∙ joint
+                ∙ or_right (get_or numbers to None) (get_or numbers from None) n (ap (λ (x : ℕ). get_or numbers x None) (sym same) ∙ k.2) (λ m e. agree m n e (ap (λ (x : ℕ). get_or numbers x None) (sym same) ∙ k.2))
             | inr differ ↦ ap (number_at numbers') (stays a k.0 k.1 differ) ∙ elim (same_or_not k.0 to) [
-              inl same ↦ ap (λ (x : ℕ). get_or numbers' x None) same ∙ joint ∙ or_left (get_or numbers to None) (get_or numbers from None) n (ap (λ (x : ℕ). get_or numbers x None) (sym same) ∙ k.2)
-              | inr other ↦ others k.0 other ∙ k.2 ] ]
+              | inl same ↦ ap (λ (x : ℕ). get_or numbers' x None) same ∙ joint ∙ or_left (get_or numbers to None) (get_or numbers from None) n (ap (λ (x : ℕ). get_or numbers x None) (sym same) ∙ k.2)
+              | inr other ↦ others k.0 other ∙ k.2
+            ]
+          ]
 
       merge_owns : (a : Node) (n : ℕ) → number_at numbers' (label' a) ≡ Some n → HasExtent shapes (ties ++ t ∷ []) a n
       merge_owns a n e =
           let k = labelled numbers' (label' a) n e in
           let p = merge_stands a k.0 k.1 in
           elim (same_or_not k.0 to) [
-            inl same ↦ elim (or_back (get_or numbers to None) (get_or numbers from None) n (sym joint ∙ ap (λ (x : ℕ). get_or numbers' x None) (sym same) ∙ k.2)) [
-              inl h ↦ owned_moved a p.0 n p.2 (ap (number_at numbers) (p.1 ∙ ap Some same) ∙ h)
+            | inl same ↦ elim (or_back (get_or numbers to None) (get_or numbers from None) n (sym joint ∙ ap (λ (x : ℕ). get_or numbers' x None) (sym same) ∙ k.2)) [
+              | inl h ↦ owned_moved a p.0 n p.2 (ap (number_at numbers) (p.1 ∙ ap Some same) ∙ h)
               | inr h ↦ owned_moved a (OfLoop t.var) n
-                (joined_on (ties ++ t ∷ []) a p.0 (OfLoop t.var) p.2
-                (joined_on (ties ++ t ∷ []) p.0 (Dimension t.dimension) (OfLoop t.var) (joined_stays ties (ties ++ t ∷ []) within p.0 (Dimension t.dimension) (s.sound p.0 (Dimension t.dimension) to (p.1 ∙ ap Some same) et)) joined_new))
-                (ap (number_at numbers) ef ∙ h) ]
-            | inr other ↦ owned_moved a p.0 n p.2 (ap (number_at numbers) p.1 ∙ sym (others k.0 other) ∙ k.2) ]
+                  (joined_on (ties ++ t ∷ []) a p.0 (OfLoop t.var) p.2
+                  (joined_on (ties ++ t ∷ []) p.0 (Dimension t.dimension) (OfLoop t.var) (joined_stays ties (ties ++ t ∷ []) within p.0 (Dimension t.dimension) (s.sound p.0 (Dimension t.dimension) to (p.1 ∙ ap Some same) et)) joined_new))
+                  (ap (number_at numbers) ef ∙ h)
+            ]
+            | inr other ↦ owned_moved a p.0 n p.2 (ap (number_at numbers) p.1 ∙ sym (others k.0 other) ∙ k.2)
+          ]
 
       pub settled_merge : IsSettled shapes (ties ++ t ∷ []) label' numbers'
       settled_merge = record {
         kept = λ x m. elim (Contains-push_cases ties t x m) [
-          inl before ↦ merge_keeps x (s.kept x before)
-          | inr e ↦ subst (HaveLabel label') e (to, stays (Dimension t.dimension) to et (λ same. apart (sym same)), moved (OfLoop t.var) ef) ];
+          | inl before ↦ merge_keeps x (s.kept x before)
+          | inr e ↦ subst (HaveLabel label') e (to, stays (Dimension t.dimension) to et (λ same. apart (sym same)), moved (OfLoop t.var) ef)
+        ];
         sound = sound_moved label' merge_stands;
         told = λ d n h. merge_tells (Dimension d) n (s.told d n h);
         owned = merge_owns;

@@ -1,2 +1,4 @@
 //! Gives each dimension and loop of a program the number to which ties join it, or refuses.
 #![tactic(auto)]
+
+mod classes;
