@@ -1,3 +1,4 @@
 pub mod Joined
 pub mod Settled
 pub mod Steps
+pub mod Fresh
