@@ -3,3 +3,4 @@
 
 mod classes;
 mod start;
+mod ties;
