@@ -2,3 +2,4 @@ pub mod Joined
 pub mod Settled
 pub mod Steps
 pub mod Fresh
+pub mod Order
