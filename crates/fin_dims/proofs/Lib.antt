@@ -3,3 +3,4 @@ pub mod Settled
 pub mod Steps
 pub mod Fresh
 pub mod Order
+pub mod Flagged

@@ -34,8 +34,9 @@ module _ (p : Tie → Bool) where
 
   chosen_by : (b : Bool) (y : Tie) (ys : List Tie) (x : Tie) → p y ≡ b → (Contains (filter p ys) x → Contains ys x × (p x ≡ true)) → Contains (cond b (y ∷ filter p ys) (filter p ys)) x → Contains (y ∷ ys) x × (p x ≡ true)
   chosen_by true y ys x eb rest h = elim (cons_cases y (filter p ys) x h.0 h.1 h.2) [
-    inl e ↦ (here y ys x e, ap p (sym e) ∙ eb)
-    | inr k ↦ (later y ys x (rest k).0, (rest k).1) ]
+    | inl e ↦ (here y ys x e, ap p (sym e) ∙ eb)
+    | inr k ↦ (later y ys x (rest k).0, (rest k).1)
+  ]
   chosen_by false y ys x eb rest h = (later y ys x (rest h).0, (rest h).1)
 
   from_filter : (xs : List Tie) (x : Tie) → Contains (filter p xs) x → Contains xs x × (p x ≡ true)
@@ -69,16 +70,17 @@ module _ (shapes : Shapes) (ties sorted : List Tie) (same : IsPermutation ties s
   pub first_uneven : (k line : ℕ) → IsNonDecreasingBy (λ t. t.line) sorted → BreaksAt shapes sorted k line → IsFirstUneven shapes ties line
   first_uneven k line rises b = record {
     uneven = uneven_stays shapes (take (k + 1) sorted) (ties_up_to line ties) (λ t h.
-      let p = in_take sorted (k + 1) t (omega (arith, b.within)) h in
-      let low : t.line ≤ line = subst (λ (n : ℕ). t.line ≤ n) (b.on_line t) (subst (λ (x : Tie). x.line ≤ (get_or sorted k t).line) p.2 (rises p.0 k t (omega (arith, p.1)) b.within)) in
-      in_filter (λ x. nat_le x.line line) ties t (at_most t.line line low) (back t (p.0, omega (arith, p.1, b.within), p.2))) b.uneven;
+        let p = in_take sorted (k + 1) t (omega (arith, b.within)) h in
+        let low : t.line ≤ line = subst (λ (n : ℕ). t.line ≤ n) (b.on_line t) (subst (λ (x : Tie). x.line ≤ (get_or sorted k t).line) p.2 (rises p.0 k t (omega (arith, p.1)) b.within)) in
+        in_filter (λ x. nat_le x.line line) ties t (at_most t.line line low) (back t (p.0, omega (arith, p.1, b.within), p.2))) b.uneven;
     least = λ before h u. b.even (uneven_stays shapes (ties_up_to before ties) (take k sorted) (λ t m.
-      let p = from_filter (λ x. nat_le x.line before) ties t m in
-      let q = forth t p.0 in
-      let low : t.line ≤ before = from_at_most t.line before p.1 in
-      elim (before_or_not q.0 k) [
-        inl below ↦ to_take sorted k q.0 t (omega (arith, b.within)) below q.2
-        | inr past ↦ absurd (let high : line ≤ t.line = subst (λ (n : ℕ). n ≤ t.line) (b.on_line t) (subst (λ (x : Tie). (get_or sorted k t).line ≤ x.line) q.2 (rises k q.0 t past q.1)) in omega arith) ]) u);
+        let p = from_filter (λ x. nat_le x.line before) ties t m in
+        let q = forth t p.0 in
+        let low : t.line ≤ before = from_at_most t.line before p.1 in
+        elim (before_or_not q.0 k) [
+          | inl below ↦ to_take sorted k q.0 t (omega (arith, b.within)) below q.2
+          | inr past ↦ absurd (let high : line ≤ t.line = subst (λ (n : ℕ). n ≤ t.line) (b.on_line t) (subst (λ (x : Tie). (get_or sorted k t).line ≤ x.line) q.2 (rises k q.0 t past q.1)) in omega arith)
+        ]) u);
   }
 
   pub even_too : ¬ IsUneven shapes sorted → ¬ IsUneven shapes ties

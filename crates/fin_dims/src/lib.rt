@@ -2,5 +2,6 @@
 #![tactic(auto)]
 
 mod classes;
+mod settle;
 mod start;
 mod ties;
