@@ -6,3 +6,5 @@ pub mod Bindings
 pub mod Scope
 pub mod Places
 pub mod Ties
+pub mod Sizes
+pub mod Choices

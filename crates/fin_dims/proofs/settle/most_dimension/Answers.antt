@@ -18,4 +18,4 @@ loop-tie-preserved c = record {
 }
 
 pub returns-clause-all : goal.returns-clause-all
-returns-clause-all c = subst (All (λ (t : Tie). t.dimension ≤ c.loop-tie.most)) (take_all c.args.ties.now c.loop-tie.tie-index (omega arith)) c.loop-tie.invariant.all
+returns-clause-all c = subst (All (λ (t : Tie). t.dimension ≤ c.loop-tie.most)) (take_all c.loop-tie.tie-index c.args.ties.now (omega arith)) c.loop-tie.invariant.all

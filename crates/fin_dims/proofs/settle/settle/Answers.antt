@@ -31,4 +31,4 @@ loop-k-preserved c = record {
 }
 
 pub returns : goal.returns
-returns c shapes s = subst (λ (ts : List Tie). AreSettled shapes ts c.loop-k.classes) (take_all c.args.ties.now c.loop-k.k (omega arith)) (c.loop-k.invariant.settled shapes s)
+returns c shapes s = subst (λ (ts : List Tie). AreSettled shapes ts c.loop-k.classes) (take_all c.loop-k.k c.args.ties.now (omega arith)) (c.loop-k.invariant.settled shapes s)
