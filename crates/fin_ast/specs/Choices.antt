@@ -20,13 +20,12 @@ Counting = ℕ → ℕ
 abbrev pub one_more : Counting
 one_more n = if nat_lt n 9 then n + 1 else n
 
-abbrev pub counted_in_turn : List Counting → Counting
-counted_in_turn [] n = n
-counted_in_turn (part ∷ rest) n = counted_in_turn rest (part n)
-
 -- an index is a choice where its level isn't dense or it may leave the extent
+abbrev pub choice_at : Level → Index → Counting
+choice_at l i n = if is_dense l && not i.loose then n else one_more n
+
 abbrev pub choices_at : List Level → List Index → Counting
-choices_at (l ∷ ls) (i ∷ is) n = choices_at ls is (if is_dense l && not i.loose then n else one_more n)
+choices_at (l ∷ ls) (i ∷ is) n = choices_at ls is (choice_at l i n)
 choices_at _ _ n = n
 
 abbrev pub levels_of : Option Header → List Level
@@ -43,16 +42,31 @@ expr_choices headers (Expr-F.Two op left right) n = right (left n)
 abbrev pub choices_of_expr : List Header → Expr → Counting
 choices_of_expr headers = fold-Expr Counting (expr_choices headers)
 
-abbrev pub stmt_choices : List Header → Stmt-F Counting → Counting
-stmt_choices headers (Stmt-F.Block body line last) n = counted_in_turn body n
-stmt_choices headers (Stmt-F.Loop var range par body line last) n = counted_in_turn body n
-stmt_choices headers (Stmt-F.Cond test body line last) n = counted_in_turn body (choices_of_expr headers test (one_more n))
-stmt_choices headers (Stmt-F.Bind var value body line last) n = counted_in_turn body (choices_of_expr headers value n)
-stmt_choices headers (Stmt-F.Update tensor at by value line) n = choices_of_expr headers value n
-stmt_choices headers _ n = n
+-- the choices of a statement, and the first loop in it that stands in no other loop of it and holds too many
+pub record Crowd : Type 0 where
+  pub choices : Counting
+  pub first : Option Refusal
 
-abbrev pub choices_of : List Header → Stmt → Counting
-choices_of headers = fold-Stmt Counting (stmt_choices headers)
+abbrev pub choices_in : List Crowd → Counting
+choices_in [] n = n
+choices_in (c ∷ cs) n = choices_in cs (c.choices n)
 
-abbrev pub choices_of_all : List Header → List Stmt → Counting
-choices_of_all headers ss = counted_in_turn (map (choices_of headers) ss)
+abbrev pub first_in : List Crowd → Option Refusal
+first_in [] = None
+first_in (c ∷ cs) = option_or c.first (first_in cs)
+
+abbrev pub stmt_crowd : List Header → Stmt-F Crowd → Crowd
+stmt_crowd headers (Stmt-F.Block body line last) = record { choices = choices_in body; first = first_in body }
+stmt_crowd headers (Stmt-F.Loop var range par body line last) = record { choices = choices_in body; first = broken (nat_lt 8 (choices_in body 0)) B3 line }
+stmt_crowd headers (Stmt-F.Cond test body line last) = record { choices = λ n. choices_in body (choices_of_expr headers test (one_more n)); first = first_in body }
+stmt_crowd headers (Stmt-F.Bind var value body line last) = record { choices = λ n. choices_in body (choices_of_expr headers value n); first = first_in body }
+stmt_crowd headers (Stmt-F.Declare tensor value line) = record { choices = λ n. n; first = None }
+stmt_crowd headers (Stmt-F.Freeze tensor line) = record { choices = λ n. n; first = None }
+stmt_crowd headers (Stmt-F.Thaw tensor line) = record { choices = λ n. n; first = None }
+stmt_crowd headers (Stmt-F.Update tensor at by value line) = record { choices = choices_of_expr headers value; first = None }
+
+abbrev pub crowd_of : List Header → Stmt → Crowd
+crowd_of headers = fold-Stmt Crowd (stmt_crowd headers)
+
+abbrev pub crowds_of : List Header → List Stmt → List Crowd
+crowds_of headers ss = map (crowd_of headers) ss

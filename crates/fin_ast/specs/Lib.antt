@@ -8,3 +8,4 @@ pub mod Places
 pub mod Ties
 pub mod Sizes
 pub mod Choices
+pub mod Infer

@@ -1,5 +1,5 @@
 -- The rules on numbers, and the shapes and ranges that the extents give.
-use Rattle.std.specs.Prelude.{ℕ, zero, suc, ℤ, pos, negsuc, ◌+◌, ◌-◌, ◌*◌, ◌^◌, Bool, true, false, not, ◌&&◌, ◌||◌, nat_lt, nat_le, unsigned_abs, List, [], ◌∷◌, Option, Some, None, is_none, unwrap_or, filter_map, slice_index_or}
+use Rattle.std.specs.Prelude.{ℕ, zero, suc, ℤ, pos, negsuc, ◌+◌, ◌-◌, ◌*◌, ◌^◌, Bool, true, false, not, ◌&&◌, ◌||◌, nat_lt, nat_le, unsigned_abs, List, [], ◌∷◌, ◌++◌, Option, Some, None, is_none, unwrap_or, filter_map, slice_index_or}
 use Rattle.std.specs.List.{list_any}
 use Rattle.std.specs.Option.{option_or}
 use Rattle.fin_base.specs.declared.refusal.Rule.{Rule}
@@ -70,16 +70,16 @@ first_unknown extent headers places = option_or (first_from (unknown_in_header e
 abbrev pub number_of : Extents → Node → ℕ
 number_of extent a = unwrap_or (extent a) 0
 
-abbrev pub shape_from : Extents → ℕ → List Level → List ℕ
-shape_from extent dimension [] = []
-shape_from extent dimension (l ∷ ls) = number_of extent (Dimension dimension) ∷ shape_from extent (dimension + 1) ls
+abbrev pub shape_from : Extents → ℕ → List Level → List ℕ → List ℕ
+shape_from extent dimension [] before = before
+shape_from extent dimension (l ∷ ls) before = shape_from extent (dimension + 1) ls (before ++ number_of extent (Dimension dimension) ∷ [])
 
 abbrev pub shape_of : Extents → ℕ → Header → List ℕ
-shape_of extent tensor h = shape_from extent (8 * tensor) h.format.levels
+shape_of extent tensor h = shape_from extent (8 * tensor) h.format.levels []
 
-abbrev pub shapes_from : Extents → ℕ → List Header → List (List ℕ)
-shapes_from extent tensor [] = []
-shapes_from extent tensor (h ∷ hs) = shape_of extent tensor h ∷ shapes_from extent (tensor + 1) hs
+abbrev pub shapes_from : Extents → ℕ → List Header → List (List ℕ) → List (List ℕ)
+shapes_from extent tensor [] before = before
+shapes_from extent tensor (h ∷ hs) before = shapes_from extent (tensor + 1) hs (before ++ shape_of extent tensor h ∷ [])
 
 abbrev pub range_of : Extents → Place → Option (ℕ × ℕ)
 range_of extent (Loop var None line) = Some (0, number_of extent (OfLoop var))
@@ -91,7 +91,7 @@ abbrev pub ranges_of : Extents → List Place → List (ℕ × ℕ)
 ranges_of extent places = filter_map (range_of extent) places
 
 abbrev pub dims_of : Extents → List Header → List Place → Dims
-dims_of extent headers places = record { shapes = shapes_from extent 0 headers; ranges = ranges_of extent places }
+dims_of extent headers places = record { shapes = shapes_from extent 0 headers []; ranges = ranges_of extent places }
 
 -- M3: for some number of the range, the sum with the offset is below 0 or not below the extent
 abbrev pub leaves : ℤ → ℕ × ℕ → ℕ → Bool
@@ -109,5 +109,9 @@ outside extent ranges Let = None
 outside extent ranges (Use dimension i line) = broken (not i.loose && leaves i.offset (range_at ranges i.first) (number_of extent (Dimension dimension))) M3 line
 
 -- B1: the product of the dense extents of a tensor that aren't 0 is at most 2^24
-abbrev pub too_dense : Extents → ℕ → Header → Option Refusal
-too_dense extent tensor h = broken (nat_lt 16777216 (dense_size h.format.levels (shape_of extent tensor h))) B1 h.line
+abbrev pub too_dense : Header → List ℕ → Option Refusal
+too_dense h shape = broken (nat_lt 16777216 (dense_size h.format.levels shape)) B1 h.line
+
+abbrev pub first_dense : List Header → List (List ℕ) → Option Refusal
+first_dense (h ∷ hs) (shape ∷ shapes) = option_or (too_dense h shape) (first_dense hs shapes)
+first_dense _ _ = None

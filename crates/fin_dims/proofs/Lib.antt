@@ -4,3 +4,6 @@ pub mod Steps
 pub mod Fresh
 pub mod Order
 pub mod Flagged
+pub mod Walks
+pub mod Verdict
+pub mod Levels
