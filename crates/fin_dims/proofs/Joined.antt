@@ -1,5 +1,5 @@
 -- Chains of ties: they go on, they go back, and more ties keep them.
-use Rattle.std.proofs.Common.{◌≡◌, ◌≢◌, ◌⊎◌, inl, inr, ℕ, List, [], ◌∷◌, ◌++◌, refl, sym, ap, ◌∙◌, subst, Option, Some}
+use Rattle.std.proofs.Common.{◌≡◌, inl, inr, ℕ, List, [], ◌∷◌, ◌++◌, refl, sym, ap, ◌∙◌, subst}
 use Rattle.std.specs.Prelude.{Contains}
 use Rattle.fin_ast.specs.declared.place.Tie.{Tie}
 use Rattle.fin_ast.specs.Ties.{Node, Dimension, OfLoop, AreTied, IsChain, AreJoined, Shapes, HasExtent, IsUneven}

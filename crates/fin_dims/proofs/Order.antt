@@ -1,13 +1,12 @@
 -- The first tie by line that joins unequal numbers gives the least such line.
-use Rattle.std.proofs.Common.{◌≡◌, ◌≢◌, ◌⊎◌, ◌<◌, ◌≤◌, ◌+◌, inl, inr, ℕ, zero, suc, Bool, true, false, cond, List, [], ◌∷◌, ◌++◌, refl, sym, ap, ◌∙◌, subst, arith, length, get_or, take, nat_le}
-use Rattle.std.specs.Prelude.{Contains, All, IsPermutation, filter, filter_map}
+use Rattle.std.proofs.Common.{◌≡◌, ◌⊎◌, ◌<◌, ◌≤◌, ◌+◌, inl, inr, ℕ, zero, suc, Bool, true, false, cond, List, [], ◌∷◌, refl, sym, ap, ◌∙◌, subst, arith, length, get_or, take, nat_le}
+use Rattle.std.specs.Prelude.{Contains, IsPermutation, filter}
 use Rattle.std.specs.List.Sorted.{IsNonDecreasingBy}
 use Rattle.std.proofs.lemmas.Bool.Decides.{nat_tests}
 use Rattle.std.proofs.lemmas.List.{get_or-take, length-take-le}
 use Rattle.std.proofs.lemmas.List.Sorted.{IsPermutation-sym, Contains-permutation}
-use Rattle.fin_ast.specs.declared.place.Place.{Place}
 use Rattle.fin_ast.specs.declared.place.Tie.{Tie}
-use Rattle.fin_ast.specs.Ties.{Node, AreJoined, Shapes, HasExtent, Extents, AreExtents, IsUneven, IsFirstUneven, ties_up_to}
+use Rattle.fin_ast.specs.Ties.{Shapes, Extents, AreExtents, IsUneven, IsFirstUneven, ties_up_to}
 use Rattle.fin_dims.specs.Settled.{BreaksAt}
 use Rattle.fin_dims.proofs.Joined.{IsWithin, uneven_stays, extent_stays}
 

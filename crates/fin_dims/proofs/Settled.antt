@@ -1,13 +1,11 @@
 -- What each tie does to the classes.
-use Rattle.std.proofs.Common.{◌≡◌, ◌≢◌, ◌⊎◌, ◌<◌, ◌↔◌, inl, inr, ℕ, zero, suc, List, [], ◌∷◌, ◌++◌, refl, sym, ap, ◌∙◌, subst, Option, Some, None, arith, length, get_or, set}
-use Rattle.std.specs.Prelude.{Contains}
+use Rattle.std.proofs.Common.{◌≡◌, ◌≢◌, ◌⊎◌, inl, inr, ℕ, zero, suc, List, [], ◌∷◌, ◌++◌, refl, sym, ap, ◌∙◌, subst, Option, Some, None, arith, get_or}
 use Rattle.std.specs.Option.{option_or}
 use Rattle.std.proofs.lemmas.Option.{none-some, same_Some}
-use Rattle.std.proofs.lemmas.List.{get_or-set_other, get_or-set_same}
 use Rattle.std.proofs.lemmas.List.Elements.{Contains-append_left, Contains-push, Contains-push_cases}
 use Rattle.fin_ast.specs.declared.place.Tie.{Tie}
-use Rattle.fin_ast.specs.Ties.{Node, Dimension, OfLoop, AreJoined, Shapes, known, HasExtent, IsUneven, AreExtents}
-use Rattle.fin_dims.specs.Classes.{label_of, number_at, HaveLabel, IsSettled}
+use Rattle.fin_ast.specs.Ties.{Node, Dimension, OfLoop, AreJoined, Shapes, HasExtent, IsUneven, AreExtents}
+use Rattle.fin_dims.specs.Classes.{number_at, HaveLabel, IsSettled}
 use Rattle.fin_dims.proofs.Joined.{IsWithin, joined_itself, joined_on, joined_back, joined_by, joined_stays, joined_alike, extent_stays, extent_along}
 
 pub same_or_not : (a b : ℕ) → (a ≡ b) ⊎ (a ≢ b)

@@ -1,5 +1,5 @@
 -- Classes of joined dimensions and loops: a label for each class, and a number for each label.
-use Rattle.std.specs.Prelude.{◌≡◌, ◌≢◌, ◌<◌, ◌==◌, ◌++◌, [], ◌∷◌, ℕ, Bool, MatchBool, List, All, Contains, Option, Some, None, length, map, slice_get, slice_index_or, slice_set, if◌then◌else◌}
+use Rattle.std.specs.Prelude.{◌≡◌, ◌≢◌, ◌<◌, ◌==◌, ◌++◌, [], ◌∷◌, ℕ, Bool, MatchBool, List, All, Contains, Option, Some, None, length, slice_get, slice_index_or, slice_set, if◌then◌else◌}
 use Rattle.std.specs.Option.{option_or}
 use Rattle.fin_ast.specs.declared.place.Tie.{Tie}
 use Rattle.fin_ast.specs.Ties.{Node, Dimension, OfLoop, AreJoined, Shapes, known, HasExtent, IsUneven}

@@ -1,6 +1,5 @@
 //! The choices of loops.
 ghost use Rattle.std.specs.Prelude.{◌≡◌, slice_get};
-
 ghost use Rattle.fin_ast.specs.Choices.{one_more as one_more_of, choice_at as choice_of_index, choices_at as choices_of_access, choices_of_expr, choices_in, first_in, crowd_of, crowds_of, levels_of};
 
 use crate::breach::broken;
@@ -33,7 +32,11 @@ fn crowd(headers: &[Header], statement: &Stmt) -> Option<Refusal>
             body,
             line,
             last: _,
-        } => broken(8 < choices_of_all(headers, body.as_slice(), 0), Rule::B3, *line),
+        } => broken(
+            8 < choices_of_all(headers, body.as_slice(), 0),
+            Rule::B3,
+            *line,
+        ),
         Stmt::Block {
             body,
             line: _,
@@ -126,11 +129,7 @@ fn choices_of_value(headers: &[Header], expr: &Expr, before: u8) -> u8
             line: _,
         } => choices_of_read(headers, *tensor, at.as_slice(), before),
         Expr::Neg(inner) => choices_of_value(headers, inner.get(), before),
-        Expr::Two {
-            op: _,
-            left,
-            right,
-        } => {
+        Expr::Two { op: _, left, right } => {
             let left = choices_of_value(headers, left.get(), before);
             choices_of_value(headers, right.get(), left)
         }

@@ -19,11 +19,7 @@ use std::alloc::{AllocError, Global};
 ///
 /// Refused where a rule on extents is broken, by the first breach: first empty ranges and large numbers, then ties
 /// that join unequal numbers, extents that nothing gives, indices outside, dense extents, and choices.
-pub fn infer(
-    alloc: Global,
-    program: &Program,
-    shapes: &[Option<Nums>],
-) -> Result<Dims, Fail>
+pub fn infer(alloc: Global, program: &Program, shapes: &[Option<Nums>]) -> Result<Dims, Fail>
     requires { length shapes.now ≡ length program.now.headers }
     ensures numbers { IfOk result (IsInferred program.now shapes.now) }
     ensures refused { IfErr result (λ e. IfRefused e (IsFirstBreach program.now shapes.now)) }
@@ -99,12 +95,7 @@ fn copied(alloc: Global, shape: &Nums) -> Result<Option<Nums>, AllocError>
     Ok(Some(shape))
 }
 
-fn breach(
-    classes: &Classes,
-    program: &Program,
-    places: &[Place],
-    dims: &Dims,
-) -> Option<Refusal>
+fn breach(classes: &Classes, program: &Program, places: &[Place], dims: &Dims) -> Option<Refusal>
     requires places { places.now ≡ places_in program.now }
     requires dims { dims.now ≡ dims_in (extent_of classes.now) program.now }
     ensures { result ≡ breach_in (extent_of classes.now) program.now }

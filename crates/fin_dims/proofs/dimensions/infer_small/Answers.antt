@@ -1,12 +1,10 @@
 use Rattle.std.proofs.Common.{◌≡◌, ◌∙◌, sym, ap, inl, inr, List, []}
-use Rattle.fin_base.specs.declared.refusal.Refusal.{Refusal}
 use Rattle.fin_base.specs.declared.refusal.Rule.TheVariants.{M1}
 use Rattle.fin_ast.specs.declared.header.Header.{Header}
 use Rattle.fin_ast.specs.declared.place.Place.{Place}
-use Rattle.fin_ast.specs.declared.place.Tie.{Tie}
-use Rattle.fin_ast.specs.Ties.{Shapes, AreExtents, IsUneven, IsFirstUneven, ties_of}
+use Rattle.fin_ast.specs.Ties.{AreExtents, IsUneven, IsFirstUneven, ties_of}
 use Rattle.fin_ast.specs.Sizes.{dims_of}
-use Rattle.fin_ast.specs.Infer.{given, shapes_in, IsFirstBreach}
+use Rattle.fin_ast.specs.Infer.{given, IsFirstBreach}
 use Rattle.fin_dims.specs.Settled.{extent_of}
 use Rattle.fin_dims.proofs.Verdict.{in_program, refused_then}
 use Rattle.fin_dims.proofs.dimensions.infer_small.Goals as goal
@@ -32,8 +30,8 @@ returns-in-Ok-clause-numbers c =
       extents = in_program (λ s t. AreExtents s t (extent_of c.in-Ok.classes)) c.args.program.now c.args.shapes.now c.as_slice-2.result.now c.args.places.now shapes c.requires.places c.in-Ok.ensures.extents;
       kept = sym c.breach.ensures ∙ c.in-None.is;
       numbers = c.in_ok-dims-in-Ok.ensures
-        ∙ ap (λ (hs : List Header). dims_of (extent_of c.in-Ok.classes) hs c.args.places.now) c.as_slice-in-Ok.ensures
-        ∙ ap (λ (ps : List Place). dims_of (extent_of c.in-Ok.classes) c.args.program.now.headers ps) c.requires.places;
+          ∙ ap (λ (hs : List Header). dims_of (extent_of c.in-Ok.classes) hs c.args.places.now) c.as_slice-in-Ok.ensures
+          ∙ ap (λ (ps : List Place). dims_of (extent_of c.in-Ok.classes) c.args.program.now.headers ps) c.requires.places;
     }
 
 pub returns-clause-refused : goal.returns-clause-refused

@@ -1,4 +1,4 @@
-use Rattle.std.proofs.Common.{◌≡◌, ◌+◌, ◌*◌, drop, take, [], ℕ}
+use Rattle.std.proofs.Common.{◌≡◌, drop}
 use Rattle.fin_ast.specs.Sizes.{first_dense}
 use Rattle.fin_dims.proofs.extents.first_dense.Given as goal
 

@@ -1,4 +1,4 @@
-use Rattle.std.proofs.Common.{◌≡◌, ◌+◌, ◌*◌, drop, take, [], ℕ}
+use Rattle.std.proofs.Common.{◌≡◌, drop}
 use Rattle.fin_ast.specs.Sizes.{first_of, large_in_place}
 use Rattle.fin_dims.proofs.large.large_in_places.Given as goal
 

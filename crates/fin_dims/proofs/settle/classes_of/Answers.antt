@@ -1,11 +1,9 @@
-use Rattle.std.proofs.Common.{◌<◌, ◌∙◌, sym, subst, refl, arith, length, List, get_or}
-use Rattle.std.specs.Prelude.{IsPermutation}
+use Rattle.std.proofs.Common.{◌<◌, sym, subst, refl, arith, length, List, get_or}
 use Rattle.std.specs.List.Sorted.{IsNonDecreasingBy}
 use Rattle.std.proofs.lemmas.List.Sorted.{All-permutation}
 use Rattle.fin_ast.specs.declared.place.Tie.{Tie}
-use Rattle.fin_ast.specs.Ties.{ties_of, tie_of}
+use Rattle.fin_ast.specs.Ties.{ties_of}
 use Rattle.fin_dims.specs.Classes.{label_of}
-use Rattle.fin_dims.specs.Start.{flag_of}
 use Rattle.fin_dims.proofs.Settled.{settled_even, settled_extents}
 use Rattle.fin_dims.proofs.Order.{even_too, extents_too, first_uneven}
 use Rattle.fin_dims.proofs.Flagged.{by_flags, all_flagged}

@@ -1,8 +1,8 @@
-use Rattle.std.proofs.Common.{◌∙◌, ◌≡◌, ◌+◌, sym, subst, ap, arith, [], List, take, ℕ}
+use Rattle.std.proofs.Common.{◌∙◌, sym, subst, ap, arith, List, take}
 use Rattle.std.proofs.lemmas.List.{take_more, take_all}
 use Rattle.std.proofs.lemmas.Option.{slice_get-get_or, get_or_from_slice_get}
 use Rattle.fin_ast.specs.declared.place.Tie.{Tie}
-use Rattle.fin_ast.specs.Ties.{Shapes, IsUneven}
+use Rattle.fin_ast.specs.Ties.{IsUneven}
 use Rattle.fin_dims.specs.Classes.{AreSettled, label_of}
 use Rattle.fin_dims.proofs.Settled.{settled_even}
 use Rattle.fin_dims.proofs.settle.settle.Goals as goal

@@ -1,4 +1,4 @@
-use Rattle.std.proofs.Common.{◌≡◌, ◌+◌, ◌*◌, drop, take, [], ℕ}
+use Rattle.std.proofs.Common.{◌≡◌, drop}
 use Rattle.fin_ast.specs.Sizes.{first_of, outside}
 use Rattle.fin_dims.specs.Settled.{extent_of}
 use Rattle.fin_dims.proofs.classes.Classes.first_outside.Given as goal

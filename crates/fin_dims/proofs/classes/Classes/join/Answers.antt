@@ -1,6 +1,5 @@
-use Rattle.std.proofs.Common.{◌∙◌, ap, sym, refl, None, Some, ℕ, length, arith}
+use Rattle.std.proofs.Common.{◌∙◌, refl, None, length}
 use Rattle.std.proofs.lemmas.Option.{slice_get_read}
-use Rattle.std.proofs.lemmas.List.Elements.{All-get_or}
 use Rattle.fin_dims.proofs.Steps.{anchored, joined_already, after_merge, anchor_below, label_below, read}
 use Rattle.fin_dims.proofs.classes.Classes.join.Goals as goal
 

@@ -13,6 +13,6 @@ pub loop-level-preserved : goal.loop-level-preserved
 loop-level-preserved c = record {
   dimension = omega (arith, c.loop-level.invariant.dimension);
   rest = sym (lacks_later (extent_of c.args.self.now) c.loop-level.at c.loop-level._level-index c.args.levels.now c.loop-level-test.true
-    (ap (λ (o : Option ℕ). is_none o) (sym c.of_dimension.ensures) ∙ none_of c.of_dimension.result c.is_none.result c.is_none.ensures ∙ c.if-is_none.false))
-    ∙ c.loop-level.invariant.rest;
+      (ap (λ (o : Option ℕ). is_none o) (sym c.of_dimension.ensures) ∙ none_of c.of_dimension.result c.is_none.result c.is_none.ensures ∙ c.if-is_none.false))
+      ∙ c.loop-level.invariant.rest;
 }

@@ -1,4 +1,4 @@
-use Rattle.std.proofs.Common.{◌≡◌, ◌+◌, drop, []}
+use Rattle.std.proofs.Common.{◌≡◌, ◌+◌, drop}
 use Rattle.fin_ast.specs.Sizes.{lacks_extent}
 use Rattle.fin_dims.specs.Settled.{extent_of}
 use Rattle.fin_dims.proofs.classes.Classes.lacks_extent.Given as goal

@@ -1,6 +1,4 @@
 use Rattle.std.proofs.Common.{length-set}
-use Rattle.std.proofs.Common.{◌∙◌, ap, length}
-use Rattle.std.proofs.lemmas.List.{length-map}
 use Rattle.fin_dims.proofs.Steps.{in_range_merged}
 use Rattle.fin_dims.proofs.classes.Classes.merge.Goals as goal
 

@@ -1,4 +1,4 @@
-use Rattle.std.proofs.Common.{◌≡◌, ◌+◌, ◌*◌, drop, take, [], ℕ}
+use Rattle.std.proofs.Common.{◌≡◌, take}
 use Rattle.fin_ast.specs.Sizes.{ranges_of}
 use Rattle.fin_dims.specs.Settled.{extent_of}
 use Rattle.fin_dims.proofs.classes.Classes.ranges.Given as goal
