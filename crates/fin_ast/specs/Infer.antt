@@ -36,8 +36,8 @@ dims_in extent p = dims_of extent p.headers (places_in p)
 -- the first breach of the rules that look at extents, in their order: M2, M3, B1, B3
 abbrev pub breach_in : Extents → Program → Option Refusal
 breach_in extent p = option_or (first_unknown extent p.headers (places_in p))
-  (option_or (first_of (outside extent (dims_in extent p).ranges) (places_in p))
-  (option_or (first_dense p.headers (dims_in extent p).shapes) (first_in (crowds_of p.headers p.body))))
+    (option_or (first_of (outside extent (dims_in extent p).ranges) (places_in p))
+    (option_or (first_dense p.headers (dims_in extent p).shapes) (first_in (crowds_of p.headers p.body))))
 
 -- no rule is broken, and these are the numbers
 pub record IsInferred (p : Program) (inputs : Shapes) (dims : Dims) : Type 0 where
