@@ -4,3 +4,8 @@ pub mod Headers
 pub mod Depth
 pub mod Bindings
 pub mod Scope
+pub mod Places
+pub mod Ties
+pub mod Sizes
+pub mod Choices
+pub mod Infer

@@ -6,7 +6,9 @@
 
 mod checked;
 mod copy;
+mod gather;
 mod header;
+mod place;
 mod program;
 #[cfg(test)]
 mod tests;
@@ -14,5 +16,6 @@ mod tree;
 
 pub use checked::{Checked, Dims, LoopWays, Ways};
 pub use header::{Header, Kind};
+pub use place::{Place, Tie};
 pub use program::Program;
 pub use tree::{Expr, Index, Stmt};

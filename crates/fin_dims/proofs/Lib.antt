@@ -1,0 +1,9 @@
+pub mod Joined
+pub mod Settled
+pub mod Steps
+pub mod Fresh
+pub mod Order
+pub mod Flagged
+pub mod Walks
+pub mod Verdict
+pub mod Levels

@@ -1,0 +1,10 @@
+use Rattle.std.proofs.Common.{◌≡◌, ◌+◌, drop}
+use Rattle.fin_ast.specs.Sizes.{lacks_extent}
+use Rattle.fin_dims.specs.Settled.{extent_of}
+use Rattle.fin_dims.proofs.classes.Classes.lacks_extent.Given as goal
+
+abbrev pub invariant-loop-level : goal.invariant-loop-level
+invariant-loop-level l = record {
+  dimension : l.at ≡ l.dimension + l._level-index;
+  rest : lacks_extent (extent_of l.self) l.at (drop l._level-index l.levels) ≡ lacks_extent (extent_of l.self) l.dimension l.levels;
+}

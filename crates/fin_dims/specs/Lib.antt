@@ -1,0 +1,3 @@
+pub mod Classes
+pub mod Start
+pub mod Settled
