@@ -4,7 +4,9 @@ ghost use Rattle.fin_parse.specs.declared.scope.Tensor.{Tensor};
 ghost use Rattle.fin_parse.specs.Names as spec;
 
 use crate::counts::Names;
-use crate::names::{binding, bound_named, breach, is_same, loop_use, tensor_named, tensor_use, variable_use};
+use crate::names::{
+    binding, bound_named, breach, is_same, loop_use, tensor_named, tensor_use, variable_use,
+};
 use crate::roles::{Role, inner_from, name_place, role_of};
 use crate::scope::{Bound, Place};
 use crate::tree::Tree;
@@ -14,18 +16,35 @@ use std::alloc::{AllocError, Global};
 
 /// The first breach in a tree.
 #[cycle(checks)]
-pub(crate) fn check(alloc: Global, names: &Names, place: &Place, tree: &Tree) -> Result<Option<Refusal>, AllocError>
+pub(crate) fn check(
+    alloc: Global,
+    names: &Names,
+    place: &Place,
+    tree: &Tree,
+) -> Result<Option<Refusal>, AllocError>
     ensures first { IfOk result (λ r. r ≡ spec.first_of ((spec.facts_of names.now.text.now tree.now).breaches (spec.scope_of names.now.tensors.now place.now))) }
 {
     match tree {
         Tree::Leaf(_) => Ok(None),
         Tree::Group(parts) => check_parts(alloc, names, place, place, 0, parts.as_slice()),
-        Tree::Node(form, parts) => check_role(alloc, names, place, role_of(*form), parts.as_slice()),
+        Tree::Node(form, parts) => check_role(
+            alloc,
+            names,
+            place,
+            role_of(*form),
+            parts.as_slice(),
+        ),
     }
 }
 
 #[cycle(checks)]
-fn check_role(alloc: Global, names: &Names, place: &Place, role: Role, parts: &[Tree]) -> Result<Option<Refusal>, AllocError>
+fn check_role(
+    alloc: Global,
+    names: &Names,
+    place: &Place,
+    role: Role,
+    parts: &[Tree],
+) -> Result<Option<Refusal>, AllocError>
     ensures first { IfOk result (λ r. r ≡ spec.first_of (spec.role_breaches names.now.text.now role (map (spec.facts_of names.now.text.now) parts.now) (spec.scope_of names.now.tensors.now place.now))) }
 {
     let name = names.token_at(parts, name_place(role));
@@ -41,7 +60,14 @@ fn check_role(alloc: Global, names: &Names, place: &Place, role: Role, parts: &[
 
 /// The first breach in parts, of which those before a place stand in the outer scope and the others in the inner one.
 #[cycle(checks)]
-pub(crate) fn check_parts(alloc: Global, names: &Names, outer: &Place, inner: &Place, from: usize, parts: &[Tree]) -> Result<Option<Refusal>, AllocError>
+pub(crate) fn check_parts(
+    alloc: Global,
+    names: &Names,
+    outer: &Place,
+    inner: &Place,
+    from: usize,
+    parts: &[Tree],
+) -> Result<Option<Refusal>, AllocError>
     ensures first { IfOk result (λ r. r ≡ spec.first_of (spec.part_breaches from (map (spec.facts_of names.now.text.now) parts.now) (spec.scope_of names.now.tensors.now outer.now) (spec.scope_of names.now.tensors.now inner.now))) }
 {
     let mut left = from;
@@ -60,7 +86,12 @@ pub(crate) fn check_parts(alloc: Global, names: &Names, outer: &Place, inner: &P
 }
 
 /// The place within a form, where it is another one.
-fn within(alloc: Global, place: &Place, role: Role, name: Option<Token>) -> Result<Option<Place>, AllocError>
+fn within(
+    alloc: Global,
+    place: &Place,
+    role: Role,
+    name: Option<Token>,
+) -> Result<Option<Place>, AllocError>
     ensures some { (tensors : List Tensor) → IfOk result (λ o. IfSome o (λ p. spec.scope_of tensors p ≡ spec.scope_within role name (spec.scope_of tensors place.now))) }
     ensures none { (tensors : List Tensor) → IfOk result (λ o. o ≡ None → spec.scope_of tensors place.now ≡ spec.scope_within role name (spec.scope_of tensors place.now)) }
 {
@@ -69,11 +100,25 @@ fn within(alloc: Global, place: &Place, role: Role, name: Option<Token>) -> Resu
     };
     match role {
         Role::LoopName => {
-            let inner = bound_within(alloc, place, Bound { name, is_loop: true })?;
+            let inner = bound_within(
+                alloc,
+                place,
+                Bound {
+                    name,
+                    is_loop: true,
+                },
+            )?;
             Ok(Some(inner))
         }
         Role::LetName => {
-            let inner = bound_within(alloc, place, Bound { name, is_loop: false })?;
+            let inner = bound_within(
+                alloc,
+                place,
+                Bound {
+                    name,
+                    is_loop: false,
+                },
+            )?;
             Ok(Some(inner))
         }
         Role::LooseName => {
@@ -112,7 +157,13 @@ fn begun_within(alloc: Global, place: &Place, name: Token) -> Result<Place, Allo
     })
 }
 
-fn named_breach(names: &Names, place: &Place, role: Role, name: Option<Token>, count: Option<u64>) -> Option<Refusal>
+fn named_breach(
+    names: &Names,
+    place: &Place,
+    role: Role,
+    name: Option<Token>,
+    count: Option<u64>,
+) -> Option<Refusal>
     ensures value { result ≡ spec.first_of (spec.named_breaches names.now.text.now role name count (spec.scope_of names.now.tensors.now place.now)) }
 {
     match name {
@@ -121,7 +172,13 @@ fn named_breach(names: &Names, place: &Place, role: Role, name: Option<Token>, c
     }
 }
 
-fn own_breach(names: &Names, place: &Place, role: Role, name: Token, count: Option<u64>) -> Option<Refusal>
+fn own_breach(
+    names: &Names,
+    place: &Place,
+    role: Role,
+    name: Token,
+    count: Option<u64>,
+) -> Option<Refusal>
     ensures value { result ≡ spec.first_of (spec.own_breaches names.now.text.now role name count (spec.scope_of names.now.tensors.now place.now)) }
 {
     let tensor = tensor_named(names.text, names.tensors, name);

@@ -15,7 +15,12 @@ use std::alloc::{AllocError, Global};
 
 /// The first breach in a tree.
 #[cycle(fills)]
-fn check_fill(alloc: Global, text: &[u8], known: &[Fill], tree: &Tree) -> Result<Option<Refusal>, AllocError>
+fn check_fill(
+    alloc: Global,
+    text: &[u8],
+    known: &[Fill],
+    tree: &Tree,
+) -> Result<Option<Refusal>, AllocError>
     ensures first { IfOk result (λ r. r ≡ first_of ((leaves_of tree.now).fills text.now known.now)) }
 {
     match tree {
@@ -33,7 +38,12 @@ fn check_fill(alloc: Global, text: &[u8], known: &[Fill], tree: &Tree) -> Result
 
 /// The first breach in some trees.
 #[cycle(fills)]
-pub(crate) fn check_fills(alloc: Global, text: &[u8], known: &[Fill], parts: &[Tree]) -> Result<Option<Refusal>, AllocError>
+pub(crate) fn check_fills(
+    alloc: Global,
+    text: &[u8],
+    known: &[Fill],
+    parts: &[Tree],
+) -> Result<Option<Refusal>, AllocError>
     ensures first { IfOk result (λ r. r ≡ first_of (fills_of (map leaves_of parts.now) text.now known.now)) }
 {
     for part in parts {
@@ -45,7 +55,13 @@ pub(crate) fn check_fills(alloc: Global, text: &[u8], known: &[Fill], parts: &[T
     Ok(None)
 }
 
-fn own_fill(alloc: Global, text: &[u8], known: &[Fill], role: Role, parts: &[Tree]) -> Result<Option<Refusal>, AllocError>
+fn own_fill(
+    alloc: Global,
+    text: &[u8],
+    known: &[Fill],
+    role: Role,
+    parts: &[Tree],
+) -> Result<Option<Refusal>, AllocError>
     ensures first { IfOk result (λ r. r ≡ first_of (own_fills role (leaves_at (map leaves_of parts.now) 0).all (leaves_at (map leaves_of parts.now) 1).all text.now known.now)) }
 {
     match role {
@@ -65,7 +81,12 @@ fn own_fill(alloc: Global, text: &[u8], known: &[Fill], role: Role, parts: &[Tre
     }
 }
 
-fn fill_breach(text: &[u8], known: &[Fill], name: Option<Token>, change: &[Token]) -> Option<Refusal>
+fn fill_breach(
+    text: &[u8],
+    known: &[Fill],
+    name: Option<Token>,
+    change: &[Token],
+) -> Option<Refusal>
     ensures value { result ≡ first_of (spec.fill_breach text.now known.now name change.now) }
 {
     match name {

@@ -8,12 +8,19 @@ use fin_lex::{Token, TokenKind};
 
 /// The places of reserved words in their table.
 const LIST: u8 = 20;
+
 const RUNS: u8 = 21;
+
 const BAND: u8 = 22;
+
 const DICT: u8 = 23;
+
 const ELEMENT: u8 = 24;
+
 const ATOMIC: u8 = 25;
+
 const MUTEX: u8 = 26;
+
 const SHARD: u8 = 27;
 
 /// Whether the words of a format, which end with `element`, are well placed in the header of an input or of another

@@ -14,7 +14,12 @@ use fin_lex::{Token, TokenKind};
 use std::alloc::{AllocError, Global};
 
 /// Looks at the headers in order, and adds their tensors to those before.
-pub(crate) fn check_headers(alloc: Global, text: &[u8], headers: &[Tree], tensors: &mut Vec<Tensor>) -> Result<Option<Refusal>, AllocError>
+pub(crate) fn check_headers(
+    alloc: Global,
+    text: &[u8],
+    headers: &[Tree],
+    tensors: &mut Vec<Tensor>,
+) -> Result<Option<Refusal>, AllocError>
     ensures first { IfOk result (λ r. r ≡ first_of (spec.header_breaches text.now tensors.old.items (map header_of headers.now))) }
     ensures tensors { IfOk result (λ r. r ≡ None → tensors.new.items ≡ spec.tensors_of tensors.old.items (map header_of headers.now)) }
 {

@@ -42,7 +42,11 @@ fn collect_all(parts: &[Tree], tokens: &mut Vec<Token>) -> Result<(), AllocError
 }
 
 /// The tokens of a part of a tree, or none where there is no such part.
-pub(crate) fn tokens_at(alloc: Global, parts: &[Tree], place: usize) -> Result<Vec<Token>, AllocError>
+pub(crate) fn tokens_at(
+    alloc: Global,
+    parts: &[Tree],
+    place: usize,
+) -> Result<Vec<Token>, AllocError>
     ensures value { IfOk result (λ ts. ts.items ≡ (spec.leaves_at (map spec.leaves_of parts.now) place).all) }
 {
     let mut tokens = Vec::new(alloc);

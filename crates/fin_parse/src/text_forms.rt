@@ -37,7 +37,11 @@ pub fn check_forms(alloc: Global, text: &[u8], trees: &Text) -> Result<(), Fail>
 }
 
 /// Looks at the formats of headers in order, and adds their fills to those before.
-fn check_formats(alloc: Global, headers: &[Tree], known: &mut Vec<Fill>) -> Result<Option<Refusal>, AllocError>
+fn check_formats(
+    alloc: Global,
+    headers: &[Tree],
+    known: &mut Vec<Fill>,
+) -> Result<Option<Refusal>, AllocError>
     ensures first { IfOk result (λ r. r ≡ first_of (spec.format_breaches (map header_of headers.now))) }
     ensures fills { IfOk result (λ r. r ≡ None → known.new.items ≡ spec.known_fills known.old.items (map header_of headers.now)) }
 {
@@ -69,7 +73,10 @@ fn head_format(head: &Head) -> Option<Refusal>
     ensures value { result ≡ first_of (spec.head_format (head_parts head.now)) }
 {
     let input = begins_with(0, head.kind.as_slice());
-    format_breach(head_token(head.kind.as_slice()), is_placed(input, head.format.as_slice()))
+    format_breach(
+        head_token(head.kind.as_slice()),
+        is_placed(input, head.format.as_slice()),
+    )
 }
 
 fn format_breach(first: Option<Token>, placed: bool) -> Option<Refusal>

@@ -1,7 +1,7 @@
-use Rattle.std.proofs.Common.{rules, ◌≡◌, ℕ, ◌+◌, ◌-◌, ◌<◌, map, drop, sym, ap, ◌∙◌, subst, arith, true, false}
+use Rattle.std.proofs.Common.{◌≡◌, ◌+◌, map, drop, ap, ◌∙◌, arith, true, false}
 use Rattle.std.specs.Option.{is_some}
-use Rattle.fin_parse.specs.Names.{facts_of, scope_of, part_breaches, named_breaches, first_of, scope_within, part_at}
-use Rattle.fin_parse.specs.Roles.{name_place, inner_from}
+use Rattle.fin_parse.specs.Names.{facts_of, scope_of, part_breaches, first_of, scope_within, part_at}
+use Rattle.fin_parse.specs.Roles.{name_place}
 use Rattle.fin_parse.proofs.Parts.{outer_found, outer_passed, inner_found, inner_passed, role_found, role_passed}
 use Rattle.fin_parse.proofs.breaches.+checks.Goals as goal
 use Rattle.fin_parse.proofs.breaches.+checks.Goals.{check_parts-then-left-gt0+in_ok-found, check_parts-else-left-gt0+in_ok-found-2}
@@ -12,10 +12,12 @@ check_parts-returns-then-is_some t c =
     let parts = c.args.parts.now in let i = c.loop-part.part-index in let u = c.part-item.result in let left = c.loop-part.left in
     let o = c.if-left-gt0.found in
     let there : true ≡ is_some o = c.if-is_some.ensures in
-    record { first = elim c.if-left-gt0.branch [
-      | check_parts-then-left-gt0+in_ok-found w ↦ outer_found f so si parts i u c.loop-part-test.true c.part-item.is left w.if-left-gt0.true o there (w.found-is ∙ w.in_ok-found.ensures.first) ∙ c.loop-part.invariant
-      | check_parts-else-left-gt0+in_ok-found-2 w ↦ inner_found f so si parts i u c.loop-part-test.true c.part-item.is left (let z = w.if-left-gt0.false in omega arith) o there (w.found-is ∙ w.in_ok-found-2.ensures.first) ∙ c.loop-part.invariant
-    ] }
+    record {
+      first = elim c.if-left-gt0.branch [
+        | check_parts-then-left-gt0+in_ok-found w ↦ outer_found f so si parts i u c.loop-part-test.true c.part-item.is left w.if-left-gt0.true o there (w.found-is ∙ w.in_ok-found.ensures.first) ∙ c.loop-part.invariant
+        | check_parts-else-left-gt0+in_ok-found-2 w ↦ inner_found f so si parts i u c.loop-part-test.true c.part-item.is left (let z = w.if-left-gt0.false in omega arith) o there (w.found-is ∙ w.in_ok-found-2.ensures.first) ∙ c.loop-part.invariant
+      ];
+    }
 
 pub check_parts-loop-part-preserved : goal.check_parts-loop-part-preserved
 check_parts-loop-part-preserved t c =

@@ -14,8 +14,8 @@ returns-then-is_some-clause-first c =
 pub loop-header-preserved : goal.loop-header-preserved
 loop-header-preserved c =
     let v : c.head_breach-found.result ≡ first_of (head_breaches c.args.text.now c.loop-header.tensors.items (head_parts c.in_ok-head.head)) = search rules in record {
-  first = header_passed c.args.text.now c.loop-header.tensors.items c.args.headers.now c.loop-header.header-index c.header-item.result c.loop-header-test.true c.header-item.is (head_parts c.in_ok-head.head) c.in_ok-head.ensures.value c.head_breach-found.result c.add_tensor.new.tensors.items c.if-is_some.ensures v c.in_ok-add_tensor.ensures.ok
-    ∙ c.loop-header.invariant.first;
-  tensors = tensors_passed c.args.text.now c.loop-header.tensors.items c.args.headers.now c.loop-header.header-index c.header-item.result c.loop-header-test.true c.header-item.is (head_parts c.in_ok-head.head) c.in_ok-head.ensures.value c.add_tensor.new.tensors.items c.in_ok-add_tensor.ensures.ok
-    ∙ c.loop-header.invariant.tensors;
-}
+      first = header_passed c.args.text.now c.loop-header.tensors.items c.args.headers.now c.loop-header.header-index c.header-item.result c.loop-header-test.true c.header-item.is (head_parts c.in_ok-head.head) c.in_ok-head.ensures.value c.head_breach-found.result c.add_tensor.new.tensors.items c.if-is_some.ensures v c.in_ok-add_tensor.ensures.ok
+          ∙ c.loop-header.invariant.first;
+      tensors = tensors_passed c.args.text.now c.loop-header.tensors.items c.args.headers.now c.loop-header.header-index c.header-item.result c.loop-header-test.true c.header-item.is (head_parts c.in_ok-head.head) c.in_ok-head.ensures.value c.add_tensor.new.tensors.items c.in_ok-add_tensor.ensures.ok
+          ∙ c.loop-header.invariant.tensors;
+    }
