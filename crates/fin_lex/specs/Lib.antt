@@ -1,2 +1,3 @@
 pub mod Piece
 pub mod Tokens
+pub mod Laws

@@ -2,6 +2,7 @@
 //! bytes that begin no token.
 #![tactic(auto)]
 
+mod laws;
 mod piece;
 mod tables;
 #[cfg(test)]
@@ -9,6 +10,7 @@ mod tests;
 mod token;
 mod tokens;
 
+pub use laws::{never_both, one_line_of_breach, one_list_of_tokens};
 pub use tables::{RESERVED, SYMBOLS, WORD_SYMBOLS};
 pub use token::{Token, TokenKind};
 pub use tokens::lex;

@@ -1,5 +1,5 @@
 -- No token is the end.
-use Rattle.std.proofs.Common.{◌≡◌, ℕ, zero, suc, ◌^◌, Bool, true, false, not, ◌&&◌, nat_lt, cond, List, [], ◌∷◌, slice_index_or, refl, sym, ap, ◌∙◌, subst}
+use Rattle.std.proofs.Common.{◌≡◌, ℕ, zero, suc, ◌^◌, Bool, true, false, not, ◌&&◌, nat_lt, cond, List, [], ◌∷◌, slice_index_or, refl, sym, ap, ◌∙◌}
 use Rattle.fin_lex.specs.declared.token.Token.{Token}
 use Rattle.fin_lex.specs.declared.token.TokenKind.{TokenKind}
 use Rattle.fin_lex.specs.declared.token.TokenKind.TheVariants as kind

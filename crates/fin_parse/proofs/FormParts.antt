@@ -1,5 +1,5 @@
 -- Formats of headers one by one.
-use Rattle.std.proofs.Common.{◌≡◌, ℕ, ◌+◌, ◌<◌, true, false, List, ◌∷◌, ◌++◌, Option, map, drop, length, get_or, refl, sym, ap, ◌∙◌}
+use Rattle.std.proofs.Common.{◌≡◌, ℕ, ◌+◌, ◌<◌, true, false, List, Option, map, drop, length, get_or, sym, ap, ◌∙◌}
 use Rattle.std.specs.Option.{is_some}
 use Rattle.fin_base.specs.declared.refusal.Refusal.{Refusal}
 use Rattle.fin_parse.specs.declared.tree.Tree.{Tree}

@@ -1,15 +1,14 @@
 -- A phrase begins with a token that begins it, or has none.
-use Rattle.std.proofs.Common.{◌≡◌, ℕ, ◌<◌, Bool, true, false, not, ◌||◌, ◌&&◌, List, [], ◌∷◌, ◌++◌, Some, None, refl, sym, ap, ◌∙◌, subst, append_assoc, ◌⊎◌, inl, inr, is_some}
+use Rattle.std.proofs.Common.{◌≡◌, Bool, true, false, ◌||◌, ◌&&◌, List, [], ◌∷◌, ◌++◌, Some, refl, sym, ap, ◌∙◌, subst, append_assoc, ◌⊎◌, inl, inr, is_some}
 use Rattle.fin_parse.specs.declared.class.Class.{Class}
 use Rattle.fin_parse.specs.declared.grammar.Phrase.{Phrase}
 use Rattle.fin_parse.specs.declared.grammar.Symbol.{Symbol}
-use Rattle.fin_parse.specs.declared.grammar.Symbol.TheVariants.{Word, One, Many, Maybe, Deeper, InLoop}
 use Rattle.fin_parse.specs.declared.tree.Tree.{Tree}
 use Rattle.fin_parse.specs.declared.tree.Room.{Room}
-use Rattle.fin_parse.specs.Classes.{class_of, class_at}
-use Rattle.fin_parse.specs.Grammar.{phrase_of, row_of, form_at}
+use Rattle.fin_parse.specs.Classes.{class_at}
+use Rattle.fin_parse.specs.Grammar.{form_at}
 use Rattle.fin_parse.specs.Choices.{begins, is_nullable, may_open, is_empty, are_empty, starts, row_starts, same_class}
-use Rattle.fin_parse.specs.Syntax.{Sign, real, beyond, look, IsTree, word, one, many, absent, present, deeper, too_deep, in_loop, too_many_loops, IsRow, done, part, IsGroup, none, more}
+use Rattle.fin_parse.specs.Syntax.{Sign, look, IsTree, word, one, many, absent, present, deeper, too_deep, in_loop, too_many_loops, IsRow, done, part, IsGroup, none, more}
 use Rattle.fin_parse.proofs.Table.{impossible, chosen, nullable, same_self}
 
 pub or_left : (a b : Bool) → a ≡ true → a || b ≡ true

@@ -1,14 +1,13 @@
 -- How what is reached moves on by a phrase, and ends.
-use Rattle.std.proofs.Common.{◌≡◌, ℕ, ◌≤◌, List, [], ◌∷◌, ◌++◌, Option, Some, Bool, false, Result, Ok, Err, IfOk, refl, sym, ap, ◌∙◌, subst, append_assoc, arith}
+use Rattle.std.proofs.Common.{◌≡◌, List, [], ◌∷◌, ◌++◌, Bool, false, Result, Err, refl, sym, ap, ◌∙◌, subst, append_assoc, arith}
 use Rattle.std.proofs.lemmas.List.{append_cancel_left}
 use Rattle.fin_lex.specs.declared.token.Token.{Token}
 use Rattle.fin_parse.specs.declared.class.Class.{Class}
 use Rattle.fin_parse.specs.declared.tree.Room.{Room}
 use Rattle.fin_parse.specs.declared.tree.Stop.{Stop}
 use Rattle.fin_parse.specs.declared.tree.Stop.TheVariants.{Unexpected, Deep, Crowded, Memory}
-use Rattle.fin_parse.specs.Classes.{class_at}
 use Rattle.fin_parse.specs.Syntax.{Sign, real, beyond, signs, look}
-use Rattle.fin_parse.specs.Reading.{Kind, Ended, AtLeast, IsReal, Reached, Refused, TooDeep, Along, Stuck, Sunk, Outcome}
+use Rattle.fin_parse.specs.Reading.{Kind, Ended, AtLeast, Reached, Refused, TooDeep, Along, Outcome}
 
 pub nil-append : {T : Type 0} (x : List T) → x ++ [] ≡ x
 nil-append [] = refl

@@ -1,5 +1,5 @@
 -- What is read of each symbol.
-use Rattle.std.proofs.Common.{◌≡◌, ◌≢◌, ℕ, zero, suc, ◌+◌, ◌<◌, ◌≤◌, length, length-append, drop, slice_index_or, Bool, true, false, not, ◌||◌, ◌&&◌, List, [], ◌∷◌, ◌++◌, Option, Some, None, Result, Ok, Err, refl, sym, ap, ◌∙◌, subst, append_assoc, ◌⊎◌, inl, inr, is_some, arith}
+use Rattle.std.proofs.Common.{◌≡◌, ◌≢◌, ℕ, zero, suc, ◌+◌, ◌<◌, ◌≤◌, length, length-append, drop, slice_index_or, Bool, true, false, not, ◌&&◌, List, [], ◌∷◌, ◌++◌, Option, Some, None, Err, refl, sym, ap, ◌∙◌, subst, append_assoc, inl, inr, arith}
 use Rattle.fin_lex.specs.declared.token.Token.{Token}
 use Rattle.fin_parse.specs.declared.class.Class.{Class}
 use Rattle.fin_parse.specs.declared.class.Class.TheVariants as class
@@ -13,12 +13,12 @@ use Rattle.fin_parse.specs.declared.tree.Room.{Room}
 use Rattle.fin_parse.specs.declared.tree.Stop.{Stop}
 use Rattle.fin_parse.specs.Classes.{class_of, class_at}
 use Rattle.fin_parse.specs.Grammar.{phrase_of, row_of, form_at}
-use Rattle.fin_parse.specs.Choices.{begins, is_nullable, may_open, goes_on, same_class, is_empty, are_empty, starts, row_starts, continues, row_continues, is_clear, is_sound, are_sound, weight, row_weight}
-use Rattle.fin_parse.specs.Syntax.{Sign, real, beyond, signs, look, lower, entered, IsTree, word, one, many, absent, present, deeper, too_deep, in_loop, too_many_loops, IsRow, done, part, IsGroup, none, more}
-use Rattle.fin_parse.specs.Reading.{Kind, Ended, AtLeast, IsReal, Reached, Refused, TooDeep, Along, Stuck, Sunk, Outcome, Trees, Rows, Groups}
+use Rattle.fin_parse.specs.Choices.{begins, is_nullable, may_open, goes_on, same_class, are_empty, row_starts, continues, row_continues, is_clear, is_sound, are_sound, weight, row_weight}
+use Rattle.fin_parse.specs.Syntax.{Sign, real, signs, look, lower, entered, IsTree, word, one, many, absent, present, deeper, too_deep, in_loop, too_many_loops, IsRow, done, part, IsGroup, none, more}
+use Rattle.fin_parse.specs.Reading.{Kind, Ended, AtLeast, IsReal, Along, Stuck, Sunk, Outcome, Trees, Rows, Groups}
 use Rattle.fin_parse.proofs.Table.{impossible, both, chosen, chosen_empty, chosen_for, continued, clear, sound, unopened}
-use Rattle.fin_parse.proofs.Leads.{or_right, or_false, Leads, tree_leads, row_leads, group_leads, no_token}
-use Rattle.fin_parse.proofs.Steps.{nil-append, begin, decide, same_room, looks_as, Sequence, phrase_read, phrase_fails, Through, through, through_fails}
+use Rattle.fin_parse.proofs.Leads.{or_false, tree_leads, row_leads, no_token}
+use Rattle.fin_parse.proofs.Steps.{nil-append, begin, decide, Sequence, phrase_read, phrase_fails, Through}
 use Rattle.fin_parse.proofs.Examples.{ex_phrase, ex_symbol, ex_row}
 
 pub false_back : (a b : Bool) → (a ≡ true → b ≡ true) → b ≡ false → a ≡ false

@@ -1,5 +1,5 @@
 -- What is read of a whole text.
-use Rattle.std.proofs.Common.{◌≡◌, ℕ, ◌+◌, ◌<◌, ◌≤◌, Bool, true, false, not, ◌||◌, ◌&&◌, List, [], ◌∷◌, ◌++◌, Option, Some, None, Result, Ok, Err, length, length-append, refl, sym, ap, ◌∙◌, subst, append_assoc, ◌⊎◌, inl, inr, arith}
+use Rattle.std.proofs.Common.{◌≡◌, ◌+◌, ◌<◌, ◌≤◌, true, false, List, [], ◌∷◌, ◌++◌, Err, length, length-append, refl, sym, ap, ◌∙◌, subst, append_assoc, inl, inr, arith}
 use Rattle.std.proofs.lemmas.List.{append_cancel_left}
 use Rattle.fin_lex.specs.declared.token.Token.{Token}
 use Rattle.fin_parse.specs.declared.class.Class.{Class}
@@ -11,13 +11,13 @@ use Rattle.fin_parse.specs.declared.tree.Room.{Room}
 use Rattle.fin_parse.specs.declared.tree.Stop.{Stop}
 use Rattle.fin_parse.specs.declared.tree.Stop.TheVariants.{Unexpected, Deep, Crowded, Memory}
 use Rattle.fin_parse.specs.declared.trees.Text.{Text}
-use Rattle.fin_parse.specs.Choices.{begins, goes_on, continues, same_class}
-use Rattle.fin_parse.specs.Syntax.{Sign, real, beyond, signs, look, IsTree, IsGroup, none, more}
-use Rattle.fin_parse.specs.Reading.{Kind, Ended, AtLeast, IsReal, Along, Outcome, Trees, Groups}
-use Rattle.fin_parse.specs.Text.{AreHeaders, Headers, Texts, is_inside, HeadersFrom, goes_on_headers, Gathered, HeadersRead, IsWhole, IsUnexpected, IsTooDeep, IsCrowded, TextRead}
-use Rattle.fin_parse.proofs.Table.{impossible, header_apart, stmt_apart, header_clear}
+use Rattle.fin_parse.specs.Choices.{begins, goes_on, continues}
+use Rattle.fin_parse.specs.Syntax.{Sign, signs, look, IsTree, IsGroup, none, more}
+use Rattle.fin_parse.specs.Reading.{Kind, Ended, AtLeast, Along, Outcome, Trees, Groups}
+use Rattle.fin_parse.specs.Text.{AreHeaders, Headers, Texts, is_inside, HeadersFrom, goes_on_headers, Gathered, IsWhole, TextRead}
+use Rattle.fin_parse.proofs.Table.{impossible, header_apart, header_clear}
 use Rattle.fin_parse.proofs.Leads.{group_leads}
-use Rattle.fin_parse.proofs.Steps.{nil-append, begin, decide, same_room, Sequence, phrase_read, phrase_fails}
+use Rattle.fin_parse.proofs.Steps.{nil-append, begin, decide, Sequence, phrase_read, phrase_fails}
 use Rattle.fin_parse.proofs.Symbols.{not_true, one_begins, follow, stops_many}
 
 abbrev header_stops : (d : Class) → continues (Many Header) d ≡ false → (begins Header d ≡ false) × (goes_on Header d ≡ false)

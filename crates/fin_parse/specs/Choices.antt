@@ -1,11 +1,9 @@
 -- What tokens begin a phrase and what tokens would go on with it, by class.
-use Rattle.std.specs.Prelude.{◌≡◌, ℕ, Bool, true, false, not, ◌&&◌, ◌||◌, List, [], ◌∷◌, is_some, max, ◌+◌}
+use Rattle.std.specs.Prelude.{ℕ, Bool, true, false, not, ◌&&◌, ◌||◌, List, [], ◌∷◌, is_some, max, ◌+◌}
 use Rattle.fin_parse.specs.declared.class.Class.{Class}
 use Rattle.fin_parse.specs.declared.class.Class.TheVariants as class
 use Rattle.fin_parse.specs.declared.grammar.Phrase.{Phrase}
 use Rattle.fin_parse.specs.declared.grammar.Phrase.TheVariants as phrase
-use Rattle.fin_parse.specs.declared.grammar.Form.{Form}
-use Rattle.fin_parse.specs.declared.grammar.Form.TheVariants as form
 use Rattle.fin_parse.specs.declared.grammar.Symbol.{Symbol}
 use Rattle.fin_parse.specs.declared.grammar.Symbol.TheVariants.{Word, One, Many, Maybe, Deeper, InLoop}
 use Rattle.fin_parse.specs.Grammar.{form_at}

@@ -1,5 +1,5 @@
 -- The part that a token plays in the grammar.
-use Rattle.std.specs.Prelude.{ℕ, ◌^◌, nat_lt, if◌then◌else◌, slice_index_or, Option, Some, None}
+use Rattle.std.specs.Prelude.{◌^◌, nat_lt, if◌then◌else◌, slice_index_or, Option, Some, None}
 use Rattle.fin_lex.specs.declared.token.TokenKind.{TokenKind}
 use Rattle.fin_lex.specs.declared.token.TokenKind.TheVariants as kind
 use Rattle.fin_lex.specs.declared.token.Token.{Token}

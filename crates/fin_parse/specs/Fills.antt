@@ -1,5 +1,5 @@
 -- Declarations with another value than the fill.
-use Rattle.std.specs.Prelude.{ℕ, zero, suc, Bool, true, false, not, ◌&&◌, ◌==◌, if◌then◌else◌, List, [], ◌∷◌, Option, Some, None}
+use Rattle.std.specs.Prelude.{ℕ, Bool, true, false, not, ◌&&◌, ◌==◌, if◌then◌else◌, List, [], ◌∷◌, Option, Some, None}
 use Rattle.std.specs.List.{find}
 use Rattle.fin_base.specs.declared.refusal.Rule.TheVariants.{F2}
 use Rattle.fin_base.specs.declared.refusal.Refusal.{Refusal}

@@ -1,5 +1,5 @@
 -- The breaches of the rules on names in headers, in the order of the text, and the tensors that they name.
-use Rattle.std.specs.Prelude.{ℕ, ◌-◌, Bool, true, false, ◌&&◌, ◌==◌, nat_le, if◌then◌else◌, List, [], ◌∷◌, ◌++◌, length, Option, Some, None, is_some}
+use Rattle.std.specs.Prelude.{ℕ, Bool, false, ◌&&◌, ◌==◌, nat_le, if◌then◌else◌, List, [], ◌∷◌, ◌++◌, length, Option, Some, None, is_some}
 use Rattle.std.specs.List.{count_by}
 use Rattle.fin_base.specs.declared.refusal.Rule.TheVariants.{N3}
 use Rattle.fin_base.specs.declared.refusal.Refusal.{Refusal}

@@ -6,7 +6,6 @@ use Rattle.fin_base.specs.declared.refusal.Rule.{Rule}
 use Rattle.fin_base.specs.declared.refusal.Rule.TheVariants.{N1, N2, N3}
 use Rattle.fin_base.specs.declared.refusal.Refusal.{Refusal}
 use Rattle.fin_lex.specs.declared.token.Token.{Token}
-use Rattle.fin_parse.specs.declared.grammar.Form.{Form}
 use Rattle.fin_parse.specs.Roles.{role_of, name_place, inner_from, counting_of}
 use Rattle.fin_parse.specs.declared.tree.Tree.{Tree, fold-Tree}
 use Rattle.fin_parse.specs.declared.tree.Tree.TheOpen.{Tree-F}

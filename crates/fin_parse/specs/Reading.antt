@@ -1,12 +1,12 @@
 -- What a reader of phrases knows after some tokens, where phrases nest to a limit.
-use Rattle.std.specs.Prelude.{◌≡◌, ◌≤◌, ℕ, List, [], ◌∷◌, ◌++◌, Option, Bool, false, Result, Ok, Err}
+use Rattle.std.specs.Prelude.{◌≡◌, ◌≤◌, List, [], ◌∷◌, ◌++◌, Option, Bool, false, Result, Ok, Err}
 use Rattle.fin_lex.specs.declared.token.Token.{Token}
 use Rattle.fin_parse.specs.declared.class.Class.{Class}
 use Rattle.fin_parse.specs.declared.tree.Room.{Room}
 use Rattle.fin_parse.specs.declared.tree.Stop.{Stop}
 use Rattle.fin_parse.specs.declared.tree.Stop.TheVariants.{Unexpected, Deep, Crowded, Memory}
 use Rattle.fin_parse.specs.Classes.{class_at}
-use Rattle.fin_parse.specs.Syntax.{Sign, real, beyond, signs, look, IsTree, IsRow, IsGroup}
+use Rattle.fin_parse.specs.Syntax.{Sign, beyond, signs, look, IsTree, IsRow, IsGroup}
 use Rattle.fin_parse.specs.declared.grammar.Phrase.{Phrase}
 use Rattle.fin_parse.specs.declared.grammar.Symbol.{Symbol}
 use Rattle.fin_parse.specs.declared.tree.Tree.{Tree}

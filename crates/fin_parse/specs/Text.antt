@@ -1,5 +1,5 @@
 -- A whole text: headers, and then statements.
-use Rattle.std.specs.Prelude.{◌≡◌, ◌≤◌, ◌⊎◌, ℕ, Bool, true, false, not, List, [], ◌∷◌, ◌++◌, length, Option, Result, Ok, Err}
+use Rattle.std.specs.Prelude.{◌≡◌, ◌≤◌, ◌⊎◌, Bool, true, false, not, List, ◌∷◌, ◌++◌, length, Option, Result, Ok, Err}
 use Rattle.fin_lex.specs.declared.token.Token.{Token}
 use Rattle.fin_parse.specs.declared.class.Class.{Class}
 use Rattle.fin_parse.specs.declared.class.Class.TheVariants.{End}

@@ -1,4 +1,4 @@
-use crate::read_syntax;
+use crate::{read_syntax, read_trees};
 use fin_base::{Fail as Refused, Rule};
 use fin_lex::lex;
 use std::alloc::Global;
@@ -126,6 +126,74 @@ fn keeps_the_limits_of_nesting(rt: HostRuntime) -> Result<(), Fail> {
     ];
     for (pieces, deep, line) in table {
         assert_eq!(rt; verdict(rt.alloc(), pieces)?, (deep, line));
+    }
+    Ok(())
+}
+
+/// The rule that a short text breaks, and its line.
+fn broken(alloc: Global, text: &[u8]) -> Result<Option<(Rule, u32)>, Refused> {
+    if text.len() > 4096 {
+        return Ok(None);
+    }
+    let newlines = text.iter().filter(|b| **b == b'\n').count();
+    let tokens = lex(alloc, text, 1)?;
+    match read_trees(alloc, text, &tokens, newlines as u32 + 1) {
+        Ok(_trees) => Ok(None),
+        Err(Refused::Refused(refusal)) => Ok(Some((refusal.rule, refusal.line))),
+        Err(e) => Err(e),
+    }
+}
+
+#[test]
+fn looks_at_names_formats_and_fills(rt: HostRuntime) -> Result<(), Fail> {
+    let table: [(&[u8], Option<(Rule, u32)>); 17] = [
+        (
+            b"in A dense list element\nout y dense element\ny .= 0\nfor i { for j { y[i] += A[i,walk(j)] * 2 } }",
+            None,
+        ),
+        (b"out s element\nout s element\n", Some((Rule::N2, 2))),
+        (b"tmp s element\ntmp s element shape 3", Some((Rule::N3, 2))),
+        (b"tmp s element shape\ns[] += i", Some((Rule::N1, 2))),
+        (b"out s element\nfor s {\n}", Some((Rule::N2, 2))),
+        (
+            b"out s element\nfor i { let\ni = 1 { } }",
+            Some((Rule::N2, 3)),
+        ),
+        (
+            b"out s element\nlet x = x { s[] += x }",
+            Some((Rule::N1, 2)),
+        ),
+        (
+            b"out s element\nlet x = 1 { s[] += x }\ns[] += x",
+            Some((Rule::N1, 3)),
+        ),
+        (
+            b"in a dense element\nout s element\nlet x = 1 { s[] += a[x] }",
+            Some((Rule::N1, 3)),
+        ),
+        (
+            b"in a dense element\nout s element\nfor i { s[] += a[~(i+\ni)] }",
+            Some((Rule::N1, 4)),
+        ),
+        (
+            b"in a dense element\nout s element\ns[] +=\na[]",
+            Some((Rule::N3, 4)),
+        ),
+        (b"out s runs dense element", Some((Rule::F1, 1))),
+        (b"in a dense atomic element", Some((Rule::F1, 1))),
+        (b"out s shard list element", Some((Rule::F1, 1))),
+        (
+            b"out s dense mutex dense element fill 3\ns .= 2",
+            Some((Rule::F2, 2)),
+        ),
+        (b"out s element fill -0\ns .= 0", None),
+        (
+            b"out s dense dense dense dense dense dense dense dense dense element",
+            Some((Rule::F1, 1)),
+        ),
+    ];
+    for (text, wanted) in table {
+        assert_eq!(rt; broken(rt.alloc(), text)?, wanted);
     }
     Ok(())
 }

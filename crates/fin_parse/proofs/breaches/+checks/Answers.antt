@@ -1,7 +1,7 @@
-use Rattle.std.proofs.Common.{rules, ◌≡◌, ℕ, ◌+◌, ◌-◌, ◌<◌, map, drop, sym, ap, ◌∙◌, subst, arith, true, false}
+use Rattle.std.proofs.Common.{◌≡◌, ◌+◌, map, drop, ap, ◌∙◌, arith, true, false}
 use Rattle.std.specs.Option.{is_some}
-use Rattle.fin_parse.specs.Names.{facts_of, scope_of, part_breaches, named_breaches, first_of, scope_within, part_at}
-use Rattle.fin_parse.specs.Roles.{name_place, inner_from}
+use Rattle.fin_parse.specs.Names.{facts_of, scope_of, part_breaches, first_of, scope_within, part_at}
+use Rattle.fin_parse.specs.Roles.{name_place}
 use Rattle.fin_parse.proofs.Parts.{outer_found, outer_passed, inner_found, inner_passed, role_found, role_passed}
 use Rattle.fin_parse.proofs.breaches.+checks.Goals as goal
 use Rattle.fin_parse.proofs.breaches.+checks.Goals.{check_parts-then-left-gt0+in_ok-found, check_parts-else-left-gt0+in_ok-found-2}

@@ -1,4 +1,4 @@
-use Rattle.std.proofs.Common.{◌≡◌, ◌∙◌}
+use Rattle.std.proofs.Common.{◌∙◌}
 use Rattle.fin_parse.proofs.HeaderParts.{fill_found, fill_passed}
 use Rattle.fin_parse.proofs.fills.+fills.Goals as goal
 

@@ -1,17 +1,17 @@
-use Rattle.std.proofs.Common.{rules, ◌≡◌, ℕ, ◌+◌, ◌*◌, ◌<◌, ◌≤◌, Bool, true, false, List, [], ◌∷◌, ◌++◌, drop, slice_index_or, length, Some, None, Result, sym, ap, ◌∙◌, subst, refl, arith, Ok, Err}
+use Rattle.std.proofs.Common.{rules, ◌≡◌, ◌+◌, ◌*◌, ◌<◌, ◌≤◌, true, false, [], ◌∷◌, ◌++◌, drop, slice_index_or, length, Some, Result, sym, ap, ◌∙◌, subst, arith, Ok, Err}
 use Rattle.fin_parse.specs.declared.grammar.Symbol.TheVariants.{Word, One, Many, Maybe, Deeper, InLoop}
 use Rattle.fin_parse.specs.declared.class.Class.TheVariants as class
 use Rattle.fin_parse.specs.declared.tree.Tree.{Tree}
 use Rattle.fin_parse.specs.declared.tree.Stop.{Stop}
 use Rattle.fin_parse.specs.declared.tree.Tree.TheVariants.{Leaf, Node, Group}
-use Rattle.fin_parse.specs.Grammar.{row_of as row, form_at, phrase_of}
+use Rattle.fin_parse.specs.Grammar.{row_of as row, form_at}
 use Rattle.fin_parse.specs.Choices.{begins, may_open, is_nullable, is_sound, are_sound, goes_on, continues, row_continues, rank, row_weight, weight}
 use Rattle.fin_parse.specs.Syntax.{signs, look, lower, entered}
 use Rattle.fin_parse.specs.Reading.{Along, Stuck, Ended, Outcome, Trees, Rows, Groups}
-use Rattle.fin_parse.proofs.Table.{chosen_for, lighter, small, sound}
+use Rattle.fin_parse.proofs.Table.{chosen_for, lighter, sound}
 use Rattle.fin_parse.proofs.Examples.{ex_symbol}
 use Rattle.fin_parse.proofs.Steps.{through, through_fails, fails_as}
-use Rattle.fin_parse.proofs.Symbols.{word_read, word_stuck, phrase_by_form, phrase_stuck, deeper_through, loop_through, deeper_sunk, loop_sunk, deeper_stuck, loop_stuck, GroupFrom, group_start, group_goes, group_ends, group_more, group_fails, many_through, maybe_present, maybe_absent, phrase_takes, not_true, Tail, RowFrom, row_start, row_ends, row_more, row_fails, whole_tail, tail_at, cut_at, at_end, weight_at, sound_at, word_not_end, solid_many, apart_many, stops_many}
+use Rattle.fin_parse.proofs.Symbols.{word_read, word_stuck, phrase_by_form, phrase_stuck, deeper_through, loop_through, deeper_sunk, loop_sunk, deeper_stuck, loop_stuck, GroupFrom, group_goes, group_ends, group_more, group_fails, many_through, maybe_present, maybe_absent, phrase_takes, not_true, Tail, RowFrom, row_ends, row_more, row_fails, whole_tail, tail_at, cut_at, at_end, weight_at, sound_at, word_not_end, solid_many, apart_many, stops_many}
 use Rattle.fin_parse.proofs.reader.+read.Goals as goal
 
 -- ---- read_phrase

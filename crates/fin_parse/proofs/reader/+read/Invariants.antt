@@ -1,4 +1,4 @@
-use Rattle.std.proofs.Common.{◌≡◌, ◌+◌, ◌*◌, length, drop, ℕ}
+use Rattle.std.proofs.Common.{◌≡◌, ◌+◌, ◌*◌, length, drop}
 use Rattle.fin_parse.specs.declared.grammar.Symbol.TheVariants.{Many}
 use Rattle.fin_parse.specs.Grammar.{row_of as row}
 use Rattle.fin_parse.specs.Choices.{continues, row_continues, rank, weight, row_weight}

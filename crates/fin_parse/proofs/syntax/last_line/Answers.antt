@@ -1,4 +1,4 @@
-use Rattle.std.proofs.Common.{◌≡◌, ◌+◌, ◌-◌, length, length-append, ◌++◌, slice_index_or, sym, ap, ◌∙◌, arith}
+use Rattle.std.proofs.Common.{◌≡◌, ◌+◌, ◌-◌, length, length-append, slice_index_or, ap, ◌∙◌, arith}
 use Rattle.fin_lex.specs.declared.token.Token.{Token}
 use Rattle.fin_lex.specs.declared.token.TokenKind.TheVariants.{Name}
 use Rattle.fin_parse.proofs.LastLines.{behind_at}

@@ -1,4 +1,4 @@
-use Rattle.std.proofs.Common.{rules, ◌≡◌, ◌<◌, ◌≤◌, ◌+◌, refl, length, length-append, true, Err, List, [], ◌∷◌, ◌++◌, sym, subst, arith}
+use Rattle.std.proofs.Common.{rules, ◌≡◌, ◌<◌, ◌≤◌, ◌+◌, refl, length, length-append, true, Err, [], ◌∷◌, ◌++◌, sym, subst, arith}
 use Rattle.fin_parse.specs.declared.grammar.Phrase.TheVariants.{Header}
 use Rattle.fin_parse.specs.Choices.{begins}
 use Rattle.fin_parse.specs.Syntax.{signs, look}

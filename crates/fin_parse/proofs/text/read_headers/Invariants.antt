@@ -1,4 +1,4 @@
-use Rattle.std.proofs.Common.{◌≡◌, ◌≤◌, length}
+use Rattle.std.proofs.Common.{◌≤◌, length}
 use Rattle.fin_parse.specs.Reading.{Along}
 use Rattle.fin_parse.specs.Text.{Headers, HeadersFrom, goes_on_headers}
 use Rattle.fin_parse.proofs.text.read_headers.Given as goal

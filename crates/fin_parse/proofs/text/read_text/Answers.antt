@@ -1,4 +1,4 @@
-use Rattle.std.proofs.Common.{rules, ◌≡◌, true, false, Err, sym, subst, ◌∙◌}
+use Rattle.std.proofs.Common.{rules, ◌≡◌, true, false, Err, sym, subst}
 use Rattle.fin_parse.specs.declared.class.Class.TheVariants as class
 use Rattle.fin_parse.specs.declared.grammar.Phrase.TheVariants.{Header}
 use Rattle.fin_parse.specs.Choices.{begins}

@@ -1,4 +1,4 @@
-use Rattle.std.proofs.Common.{◌≡◌, ◌∙◌}
+use Rattle.std.proofs.Common.{◌∙◌}
 use Rattle.fin_parse.specs.Leaves.{head_parts}
 use Rattle.fin_parse.proofs.FormParts.{format_found, format_passed, known_passed}
 use Rattle.fin_parse.proofs.text_forms.check_formats.Goals as goal

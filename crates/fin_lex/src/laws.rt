@@ -1,0 +1,17 @@
+//! Laws of the definition of tokens.
+ghost use Rattle.fin_lex.specs.Laws.{OneList, OneLine, NeverBoth};
+
+/// A text has at most one list of tokens.
+pub fn one_list_of_tokens()
+    ensures law { OneList }
+{}
+
+/// A text breaks at one line at most.
+pub fn one_line_of_breach()
+    ensures law { OneLine }
+{}
+
+/// A text that has tokens doesn't break.
+pub fn never_both()
+    ensures law { NeverBoth }
+{}
