@@ -17,7 +17,7 @@ use Rattle.fin_parse.specs.Reading.{Kind, Ended, AtLeast, Along, Outcome, Trees,
 use Rattle.fin_parse.specs.Text.{AreHeaders, Headers, Texts, is_inside, HeadersFrom, goes_on_headers, Gathered, IsWhole, TextRead}
 use Rattle.fin_parse.proofs.Table.{impossible, header_apart, header_clear}
 use Rattle.fin_parse.proofs.Leads.{group_leads}
-use Rattle.fin_parse.proofs.Steps.{nil-append, begin, decide, Sequence, phrase_read, phrase_fails}
+use Rattle.fin_parse.proofs.Steps.{nil-append, begin, decide, same_room, Sequence, phrase_read, phrase_fails}
 use Rattle.fin_parse.proofs.Symbols.{not_true, one_begins, follow, stops_many}
 
 abbrev header_stops : (d : Class) → continues (Many Header) d ≡ false → (begins Header d ≡ false) × (goes_on Header d ≡ false)

@@ -2,6 +2,7 @@
 #![tactic(auto)]
 
 mod breaches;
+mod choice;
 mod class;
 mod counts;
 mod cursor;
@@ -24,9 +25,10 @@ mod tree;
 mod trees;
 mod verdict;
 
+pub use choice::form_at;
 pub use class::{Class, class_of};
 pub use cursor::Cursor;
-pub use grammar::{Form, Phrase, Symbol, form_at, row_of};
+pub use grammar::{Form, Phrase, Symbol, row_of};
 pub use reader::read_phrase;
 pub use scope::{Bound, Tensor};
 pub use syntax::read_syntax;

@@ -4,9 +4,10 @@ ghost use Rattle.fin_parse.specs.Grammar.{row_of as row};
 ghost use Rattle.fin_parse.specs.Choices.{may_open as opens, goes_on, continues, row_continues, is_sound};
 ghost use Rattle.fin_parse.specs.Reading.{Outcome, Trees, Rows, Groups};
 
+use crate::choice::form_at;
 use crate::class::Class;
 use crate::cursor::Cursor;
-use crate::grammar::{Form, Phrase, Symbol, form_at, row_of};
+use crate::grammar::{Form, Phrase, Symbol, row_of};
 use crate::tree::{Room, Stop, Tree};
 use sqlite_items::Items;
 use std::alloc::{AllocError, Global};

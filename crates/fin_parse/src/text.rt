@@ -1,9 +1,10 @@
 //! Reads a whole text.
 ghost use Rattle.fin_parse.specs.Text.{HeadersRead, TextRead};
 
+use crate::choice::form_at;
 use crate::class::Class;
 use crate::cursor::Cursor;
-use crate::grammar::{Phrase, form_at};
+use crate::grammar::Phrase;
 use crate::reader::{read_many, read_phrase};
 use crate::tree::{Room, Stop, Tree};
 use crate::trees::Text;
