@@ -63,7 +63,7 @@ const REFUSED: Case = Case {
     ..RUN
 };
 
-const CASES: [Case; 20] = [
+const CASES: [Case; 25] = [
     RUN,
     Case { most: 1, ..RUN },
     Case {
@@ -99,6 +99,36 @@ const CASES: [Case; 20] = [
         words: &["finch", "check"],
         job: b"in a dense element\n  @\n%%\n",
         err: b"refused S1 line 2\n",
+        ..REFUSED
+    },
+    Case {
+        words: &["finch", "check"],
+        job: b"out s element\ns[ += 1\n%%\n",
+        err: b"refused S2 line 2\n",
+        ..REFUSED
+    },
+    Case {
+        words: &["finch", "check"],
+        job: b"out s element\nout s element\n%%\n",
+        err: b"refused N2 line 2\n",
+        ..REFUSED
+    },
+    Case {
+        words: &["finch", "check"],
+        job: b"out s element\nfor i { s[] += j }\n%%\n",
+        err: b"refused N1 line 2\n",
+        ..REFUSED
+    },
+    Case {
+        words: &["finch", "check"],
+        job: b"out h mutex list element\n%%\n",
+        err: b"refused F1 line 1\n",
+        ..REFUSED
+    },
+    Case {
+        words: &["finch", "check"],
+        job: b"out s element fill 1\ns .= 2\n%%\n",
+        err: b"refused F2 line 2\n",
         ..REFUSED
     },
     Case {
