@@ -1,4 +1,10 @@
-//! From tokens to programs.
+//! From the tokens of a program's text to its trees: the grammar, and the rules on names, formats and fills.
+//!
+//! The grammar is a table of forms, each a row of symbols. `read_trees` gives the trees that the tokens stand for, and
+//! these are the only ones; or it refuses by the first of three steps that has a breach, at its first breach in the order
+//! of the text: the first token with which no text of the grammar goes on (`S2`), or that nests too deep (`S3`); a name
+//! that stands for nothing that may stand there, is taken, or has another count of indices than levels (`N1` to `N3`); a
+//! misplaced format, or a declaration with another value than the fill (`F1`, `F2`).
 #![tactic(auto)]
 
 mod breaches;
@@ -25,16 +31,7 @@ mod tree;
 mod trees;
 mod verdict;
 
-pub use choice::form_at;
-pub use class::{Class, class_of};
-pub use cursor::Cursor;
-pub use grammar::{Form, Phrase, Symbol, row_of};
-pub use reader::read_phrase;
-pub use scope::{Bound, Tensor};
-pub use syntax::read_syntax;
-pub use text::read_text;
-pub use text_forms::check_forms;
-pub use text_names::check_names;
-pub use tree::{Room, Stop, Tree};
+pub use grammar::Form;
+pub use tree::Tree;
 pub use trees::Text;
 pub use verdict::read_trees;

@@ -1,4 +1,5 @@
-use crate::{read_syntax, read_trees};
+use crate::read_trees;
+use crate::syntax::read_syntax;
 use fin_base::{Fail as Refused, Rule};
 use fin_lex::lex;
 use std::alloc::Global;
