@@ -1,4 +1,3 @@
-pub mod Words
 pub mod Splits
 pub mod Chains
 pub mod OneLine

@@ -7,7 +7,7 @@ use Rattle.std.proofs.lemmas.List.Elements.{All-nil, All-cons, All-append, All-w
 use Rattle.std.proofs.lemmas.List.Sums.{AllPass-from_list_all}
 use Rattle.fin_text.specs.Numbers.{IsSize, spaced, spaced_sizes}
 use Rattle.fin_text.proofs.Reading.{spaced_one_to_one, spaced_in_line, spaced_sizes_one_to_one, spaced_sizes_in_line}
-use Rattle.fin_form.specs.Names.{IsName, continues_name}
+use Rattle.fin_text.specs.Names.{IsName, continues_name}
 use Rattle.fin_form.specs.FirstForm.{declaration, loop_of}
 use Rattle.fin_form.specs.Lines.{none, new_name, size, words, Holds}
 use Rattle.fin_form.specs.Parts.{known_line, name_line, loop_line, extent_line, values_line, shape_of, val_of}

@@ -3,7 +3,7 @@ use Rattle.std.specs.Prelude.{◌≡◌, ℕ, ℤ, List, ◌++◌, length, take,
 use Rattle.fin_base.specs.Words.{IsWord}
 use Rattle.fin_text.specs.Numbers.{IsSize}
 use Rattle.fin_text.specs.Text.{text_of_lines}
-use Rattle.fin_form.specs.Names.{IsName}
+use Rattle.fin_text.specs.Names.{IsName}
 
 -- What a line asks.
 pub data Demand : Type 0 where

@@ -5,9 +5,9 @@ ghost use Rattle.fin_form.specs.Lines.{new_name, size, words};
 ghost use Rattle.fin_form.specs.Parts.{Reads, Says, program, name_line, loop_line, extent_line, values_line, shape_of, val_of, vector};
 
 use crate::lines::{FormFail, Lines, is_joined, split_at_byte};
-use crate::names::{is_new_name, name_from};
+use crate::names::is_new_name;
 use fin_tensor::{Name, Vals};
-use fin_text::{read_size, read_values};
+use fin_text::{name_from, read_size, read_values};
 use std::alloc::{AllocError, Global};
 
 /// A vector that the loop reads.

@@ -2,7 +2,7 @@ use Rattle.std.proofs.Common.{[], ◌++◌, ◌≡◌, Some, None, map, sym, sub
 use Rattle.std.proofs.lemmas.Bool.Decides.{Decides-eqb}
 use Rattle.std.proofs.lemmas.Slice.Eq.{strip_prefix_is, strip_suffix_is}
 use Rattle.std.specs.Prelude.{Contains}
-use Rattle.fin_form.specs.Names.{IsName}
+use Rattle.fin_text.specs.Names.{IsName}
 use Rattle.fin_form.proofs.LineKinds.{declaration_tells}
 use Rattle.fin_form.proofs.first_form.declared.Goals as goal
 

@@ -3,7 +3,7 @@ use Rattle.std.specs.Prelude.{All, Contains}
 use Rattle.std.proofs.lemmas.Bool.Decides.{Decides-eqb}
 use Rattle.std.proofs.lemmas.List.{append_cancel_left}
 use Rattle.std.proofs.lemmas.Slice.Eq.{strip_prefix_is}
-use Rattle.fin_form.specs.Names.{IsName}
+use Rattle.fin_text.specs.Names.{IsName}
 use Rattle.fin_form.specs.FirstForm.{loop_of}
 use Rattle.fin_form.proofs.LineKinds.{loop_tells, loop_rest, name_spaceless}
 use Rattle.fin_form.proofs.Splits.{not_cut}

@@ -1,4 +1,4 @@
-use Rattle.fin_form.proofs.Words.{not_found}
+use Rattle.fin_text.proofs.Listed.{not_found}
 use Rattle.fin_form.proofs.names.is_new_name.Goals as goal
 
 pub returns-then-is_name : goal.returns-then-is_name
