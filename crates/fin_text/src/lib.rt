@@ -1,4 +1,7 @@
 //! The text of tensors: lines of words, numbers in decimal.
+//!
+//! `write_tensor` puts exactly the text of a storage of any format. `read_tensors` reads a text of tensors line by line: each
+//! line is taken where it is what is due there, or refused by the first of the rules `X1` to `X5` that it breaks.
 #![tactic(auto)]
 
 mod due;
