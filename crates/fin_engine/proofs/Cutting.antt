@@ -93,3 +93,15 @@ found_last text at next r h end = record {
 
 pub endless : (text : List ℕ) (at next : ℕ) → IsReached text at next → All (λ b. b ≢ 10) (drop at text) → drop at text ≢ codes "%%" → IsEndless text
 endless text at next r h other = subst (All IsBefore) (sym (r.lines_are ∙ ap (λ l. r.before ++ l) (only_line (drop at text) h))) (All-push IsBefore r.before (drop at text) r.none other)
+
+-- each line has a byte, its newline
+lines_fit : (ls : List (List ℕ)) → length ls ≤ length (text_of_lines ls)
+lines_fit [] = omega arith
+lines_fit (l ∷ ls) = omega (arith, lines_fit ls, length-append (l ++ 10 ∷ []) (text_of_lines ls), length-append l (10 ∷ []))
+
+-- a line's number is no greater than the bytes before it and 1
+pub early : (text program tensors : List ℕ) (last : ℕ) → IsCut text program tensors last → last ≤ length program + 1
+early text program tensors last c =
+    let few : length c.before ≤ length (text_of_lines c.before) = lines_fit c.before in
+    let long : length program ≡ length (text_of_lines c.before) = ap length c.program_is in
+    omega (arith, c.last_is)

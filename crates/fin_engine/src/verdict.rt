@@ -6,6 +6,7 @@ use crate::cut::cut;
 use fin_base::{Fail, Refusal, Rule};
 use fin_lex::lex;
 use fin_parse::read_trees;
+use fin_text::read_tensors;
 use std::alloc::Global;
 
 /// Checks a job, rule by rule, in the order of the rules.
@@ -24,5 +25,6 @@ pub fn check(alloc: Global, text: &[u8]) -> Result<(), Fail>
     };
     let tokens = lex(alloc, parts.program, 1)?;
     read_trees(alloc, parts.program, tokens.as_slice(), parts.last)?;
+    read_tensors(alloc, parts.tensors, parts.last + 1)?;
     Ok(())
 }

@@ -1,12 +1,15 @@
-use Rattle.std.proofs.Common.{rules, ◌≡◌, List, ℕ, subst, sym}
+use Rattle.std.proofs.Common.{rules, arith, ◌≡◌, ◌≤◌, ◌+◌, List, ℕ, length, subst, sym}
 use Rattle.std.specs.Prelude.{Err}
 use Rattle.fin_base.specs.declared.refusal.Fail.{Fail}
 use Rattle.fin_base.specs.declared.refusal.Fail.TheVariants.{Memory, Refused}
 use Rattle.fin_lex.specs.declared.token.Token.{Token}
 use Rattle.fin_lex.specs.Tokens.{AreTokens, Outcome}
-use Rattle.fin_parse.specs.Verdict.{Verdict}
+use Rattle.fin_parse.specs.Verdict.{IsAccepted, Verdict}
+use Rattle.fin_parse.specs.declared.trees.Text.{Text}
+use Rattle.fin_text.specs.Reading.{ReadsTensors}
 use Rattle.fin_engine.specs.Cut.{IsCut}
 use Rattle.fin_engine.specs.Verdict.{Breaks, Checks}
+use Rattle.fin_engine.proofs.Cutting.{early}
 use Rattle.fin_engine.proofs.verdict.check.Goals as goal
 
 -- a text without tokens
@@ -39,3 +42,33 @@ returns-in_err-read_trees c =
     let all : c.as_slice.result.now ≡ tokens = search rules in
     let verdict : Verdict parts.program.now tokens parts.last (Err fail) = subst (λ x. Verdict parts.program.now x parts.last (Err fail)) all c.in_err-read_trees.ensures.verdict in
     record { verdict = subst (λ r. Checks c.args.text.now r) (sym is) (refused c.args.text.now parts.program.now parts.tensors.now parts.last tokens fail c.in-Some.ensures.parts c.in_ok-tokens.ensures.tokens verdict) }
+
+pub overflow_add-parts : goal.overflow_add-parts
+overflow_add-parts c =
+    let parts = c.in-Some.parts in
+    let last : parts.last ≤ length parts.program.now + 1 = early c.args.text.now parts.program.now parts.tensors.now parts.last c.in-Some.ensures.parts in
+    omega (arith, c.requires, c.in-Some.ensures.shorter.0)
+
+pub read_tensors-requires-clause-first_line : goal.read_tensors-requires-clause-first_line
+read_tensors-requires-clause-first_line c =
+    let parts = c.in-Some.parts in
+    let last : parts.last ≤ length parts.program.now + 1 = early c.args.text.now parts.program.now parts.tensors.now parts.last c.in-Some.ensures.parts in
+    omega (arith, c.requires, c.in-Some.ensures.shorter.0)
+
+-- tensors that break a rule
+misread : (text program tensors : List ℕ) (last : ℕ) (tokens : List Token) (trees : Text) (fail : Fail) → IsCut text program tensors last → AreTokens program 1 tokens
+    → IsAccepted program tokens trees → ReadsTensors tensors (last + 1) (Err fail) → Checks {T = Unit {0}} text (Err fail)
+misread text program tensors last tokens trees (Refused r) cut lexed accepted read = Breaks.no_tensors program tensors last tokens trees r cut lexed accepted read
+misread text program tensors last tokens trees (Memory e) cut lexed accepted read = tt
+
+pub returns-in_err-read_tensors : goal.returns-in_err-read_tensors
+returns-in_err-read_tensors c =
+    let parts = c.in-Some.parts in
+    let fail = c.in_err-read_tensors.field-0.0 in
+    let is : c.from_residual-in_err-read_tensors.result ≡ Err fail = search rules in
+    let tokens = c.in_ok-tokens.tokens.items in
+    let trees = c.in_ok-read_trees.field-0 in
+    let all : c.as_slice.result.now ≡ tokens = search rules in
+    let accepted : IsAccepted parts.program.now tokens trees = subst (λ x. IsAccepted parts.program.now x trees) all c.in_ok-read_trees.ensures.verdict in
+    record { verdict = subst (λ r. Checks c.args.text.now r) (sym is) (misread c.args.text.now parts.program.now parts.tensors.now parts.last tokens trees fail c.in-Some.ensures.parts c.in_ok-tokens.ensures.tokens accepted c.in_err-read_tensors.ensures) }
+
