@@ -104,12 +104,14 @@ same_valid given d e after (SameDue.shapes f k q r) h = (h.0, h.1, subst (λ x. 
 same_valid given d e after (SameDue.ptrs a b s) h =
     (h.0, subst (λ k. TellsPart k after h.0) (same_place a.name b.name a.draft b.draft s) h.1, subst (λ n. IsPtr n h.0) (ap₂ due s.shape_is s.parts_are) h.2)
 same_valid given d e after (SameDue.seconds a b s q) h =
-    let numbers = h.0 in
-    (numbers, subst (λ k. TellsPart k after numbers) (same_place a.name b.name a.draft b.draft s) h.1,
-        subst (λ p. IsSecond (due_level b.draft) (slice_index b.draft.shape (length b.draft.parts)) (due b.draft.shape b.draft.parts) p numbers) q
-        (subst (λ n. IsSecond (due_level b.draft) (slice_index b.draft.shape (length b.draft.parts)) n a.ptr numbers) (ap₂ due s.shape_is s.parts_are)
-        (subst (λ n. IsSecond (due_level b.draft) n (due a.draft.shape a.draft.parts) a.ptr numbers) (ap₂ (λ (x : List ℕ) ps. slice_index x (length ps)) s.shape_is s.parts_are)
-        (subst (λ l. IsSecond l (slice_index a.draft.shape (length a.draft.parts)) (due a.draft.shape a.draft.parts) a.ptr numbers) (same_level a.name b.name a.draft b.draft s) h.2))))
+    let numbers = h.0 in (
+      numbers,
+      subst (λ k. TellsPart k after numbers) (same_place a.name b.name a.draft b.draft s) h.1,
+      subst (λ p. IsSecond (due_level b.draft) (slice_index b.draft.shape (length b.draft.parts)) (due b.draft.shape b.draft.parts) p numbers) q
+          (subst (λ n. IsSecond (due_level b.draft) (slice_index b.draft.shape (length b.draft.parts)) n a.ptr numbers) (ap₂ due s.shape_is s.parts_are)
+          (subst (λ n. IsSecond (due_level b.draft) n (due a.draft.shape a.draft.parts) a.ptr numbers) (ap₂ (λ (x : List ℕ) ps. slice_index x (length ps)) s.shape_is s.parts_are)
+          (subst (λ l. IsSecond l (slice_index a.draft.shape (length a.draft.parts)) (due a.draft.shape a.draft.parts) a.ptr numbers) (same_level a.name b.name a.draft b.draft s) h.2))),
+    )
 same_valid given d e after (SameDue.vals a b s) h = (h.0, h.1, subst (λ ps. IsVal b.draft.shape ps h.0) s.parts_are (subst (λ x. IsVal x a.draft.parts h.0) s.shape_is h.2))
 same_valid given d e after (SameDue.ends n m s t q r) h = h
 

@@ -133,7 +133,7 @@ next_second n m d e ns ms _ y s q h k = elim h [ ]
 next_end : (n m : List ℕ) (d e : Draft) (vs ws : List ℤ) (x y : Due) → SameDraft n d m e → vs ≡ ws → IsNextEnd n d vs x → IsNextEnd m e ws y → SameDue x y
 next_end n m d e vs ws (End x s) (End y t) same q h k =
     ends x y s t (h.0 ∙ same.name_is ∙ sym k.0)
-        (same_storage s t (h.1 ∙ same.format_is ∙ sym k.1) (h.2 ∙ same.shape_is ∙ sym k.2) (h.3 ∙ same.parts_are ∙ sym k.3) (h.4 ∙ q ∙ sym k.4))
+    (same_storage s t (h.1 ∙ same.format_is ∙ sym k.1) (h.2 ∙ same.shape_is ∙ sym k.2) (h.3 ∙ same.parts_are ∙ sym k.3) (h.4 ∙ q ∙ sym k.4))
 next_end n m d e vs ws (End x s) _ same q h k = elim k [ ]
 next_end n m d e vs ws _ y same q h k = elim h [ ]
 
@@ -160,6 +160,6 @@ same_taken given d e after x y (seconds f g s p) (ns, a, _, h) (ms, b, _, k) =
     let kind : due_level f.draft ≡ due_level g.draft = same_level f.name g.name f.draft g.draft s in
     let part : part_with (due_level f.draft) f.ptr ns ≡ part_with (due_level g.draft) g.ptr ms = (λ i. part_with (kind i) (p i) (numbers i)) in
     next_after f.name g.name f.draft.format g.draft.format f.draft.shape g.draft.shape (f.draft.parts ++ part_with (due_level f.draft) f.ptr ns ∷ []) (g.draft.parts ++ part_with (due_level g.draft) g.ptr ms ∷ [])
-        x y s.name_is s.format_is s.shape_is (ap₂ (λ ps q. ps ++ q ∷ []) s.parts_are part) h k
+    x y s.name_is s.format_is s.shape_is (ap₂ (λ ps q. ps ++ q ∷ []) s.parts_are part) h k
 same_taken given d e after x y (vals f g s) (vs, a, _, h) (ws, b, _, k) = next_end f.name g.name f.draft g.draft vs ws x y s (one_values after vs ws a b) h k
 same_taken given d e after x y (ends n m s t q r) h k = elim h [ ]

@@ -46,10 +46,10 @@ rest_agrees d e r s line after x y SameDue.tensors g since (xg, xs, _, h) (yg, y
 rest_agrees d e r s line after x y (SameDue.ends n m t u p q) g since (xg, xb, _) (yg, yb, _) = elim since [
   | inl b ↦ elim b [ ]
   | inr l ↦ record {
-      given_is = xg ∙ ap₂ (λ ts t. ts ++ t ∷ []) g (λ i. (p i, record { storage = q i; line = l i })) ∙ sym yg;
-      due_is = both_between x.due y.due xb yb;
-      since_is = inl xb;
-    }
+    given_is = xg ∙ ap₂ (λ ts t. ts ++ t ∷ []) g (λ i. (p i, record { storage = q i; line = l i })) ∙ sym yg;
+    due_is = both_between x.due y.due xb yb;
+    since_is = inl xb;
+  }
 ]
 rest_agrees d e r s line after x y (SameDue.formats n m p) g since (xg, xs, _, h) (yg, ys, _, k) = inside d e r s after x y (λ b. b) (SameDue.formats n m p) g since xg xs h yg ys k
 rest_agrees d e r s line after x y (SameDue.fills f j p q) g since (xg, xs, _, h) (yg, ys, _, k) = inside d e r s after x y (λ b. b) (SameDue.fills f j p q) g since xg xs h yg ys k
@@ -153,9 +153,9 @@ taken_or_broken r s line bytes x rule a h (BreaksLine.due_line after f first b) 
     let facts = after_facts r.due r line h.after x h.rest in
     let q = a.due_is in
     unbroken (names_of s) s.due h.after rule
-        (λ t. facts.0 (same_other s.due r.due h.after (back r.due s.due q) t)) (same_form r.due s.due h.after q facts.1) (same_numbers r.due s.due h.after q facts.2)
-        (subst (λ g. IsValid (map (λ (t : List ℕ × Given). t.0) g) s.due h.after) a.given_is (same_valid (names_of r) r.due s.due h.after q facts.3))
-        (subst (λ t. Breaks (names_of s) s.due t rule) (sym cut.1) b)
+    (λ t. facts.0 (same_other s.due r.due h.after (back r.due s.due q) t)) (same_form r.due s.due h.after q facts.1) (same_numbers r.due s.due h.after q facts.2)
+    (subst (λ g. IsValid (map (λ (t : List ℕ × Given). t.0) g) s.due h.after) a.given_is (same_valid (names_of r) r.due s.due h.after q facts.3))
+    (subst (λ t. Breaks (names_of s) s.due t rule) (sym cut.1) b)
 
 pub one_break : (r s : Reader) (bytes : List ℕ) (f g : Rule) → Agree r s → BreaksLine r bytes f → BreaksLine s bytes g → f ≡ g
 one_break r s bytes f g a (BreaksLine.unknown w t h n) (BreaksLine.unknown v u k m) = refl

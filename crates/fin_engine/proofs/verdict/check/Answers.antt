@@ -71,4 +71,3 @@ returns-in_err-read_tensors c =
     let all : c.as_slice.result.now ≡ tokens = search rules in
     let accepted : IsAccepted parts.program.now tokens trees = subst (λ x. IsAccepted parts.program.now x trees) all c.in_ok-read_trees.ensures.verdict in
     record { verdict = subst (λ r. Checks c.args.text.now r) (sym is) (misread c.args.text.now parts.program.now parts.tensors.now parts.last tokens trees fail c.in-Some.ensures.parts c.in_ok-tokens.ensures.tokens accepted c.in_err-read_tensors.ensures) }
-
