@@ -14,3 +14,5 @@ pub mod TextNames
 pub mod FormatWords
 pub mod TextForms
 pub mod Verdict
+pub mod Terms
+pub mod Elaboration

@@ -18,10 +18,12 @@ mod grammar;
 mod headers;
 mod heads;
 mod names;
+mod naming;
 mod reader;
 mod roles;
 mod scope;
 mod syntax;
+mod terms;
 #[cfg(test)]
 mod tests;
 mod text;
