@@ -12,3 +12,11 @@ pub mod Finds
 pub mod Parts
 pub mod HeaderParts
 pub mod FormParts
+pub mod Nodes
+pub mod Induction
+pub mod Bounds
+pub mod Counting
+pub mod Keeping
+pub mod NamedTerms
+pub mod NamedIndices
+pub mod NamedStatements
