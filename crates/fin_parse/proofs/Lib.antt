@@ -20,3 +20,4 @@ pub mod Keeping
 pub mod NamedTerms
 pub mod NamedIndices
 pub mod NamedStatements
+pub mod Named
