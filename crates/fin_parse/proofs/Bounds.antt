@@ -76,9 +76,10 @@ module _ (text : List ℕ) (bs : List Bound) (vs : List Variable) (next : ℕ) (
   module _ (g : AreBound text bs vs next loops lets) where
     used' : (a : Token) (b : Bound) → bound_named text (bs ++ the_bound ∷ []) a ≡ Some b → (v : Variable) × (variable_named text (vs ++ the_variable ∷ []) a ≡ Some v) × (is_among more_loops v.number || is_among more_lets v.number ≡ true) × (b.is_loop ≡ true → is_among more_loops v.number ≡ true)
     used' a b h = elim (last_found the_bound (λ (c : Bound). is_same text c.name a) bs b h) [
-        | inl k ↦ let (v, e, m, l) = g.used a b k in
-            (v, still_found the_variable (λ (w : Variable). is_same text w.name a) vs v e, or_first (is_among loops v.number) (is_among lets v.number) (is_among more_loops v.number) (is_among more_lets v.number) (wider v.number) (wider_lets v.number) m, λ q. wider v.number (l q))
-        | inr k ↦ (the_variable, then_found the_variable (λ (w : Variable). is_same text w.name a) vs (g.free a k.0) k.1, new, λ q. new_loop (ap (λ (c : Bound). c.is_loop) k.2 ∙ q)) ]
+      | inl k ↦ let (v, e, m, l) = g.used a b k in
+          (v, still_found the_variable (λ (w : Variable). is_same text w.name a) vs v e, or_first (is_among loops v.number) (is_among lets v.number) (is_among more_loops v.number) (is_among more_lets v.number) (wider v.number) (wider_lets v.number) m, λ q. wider v.number (l q))
+      | inr k ↦ (the_variable, then_found the_variable (λ (w : Variable). is_same text w.name a) vs (g.free a k.0) k.1, new, λ q. new_loop (ap (λ (c : Bound). c.is_loop) k.2 ∙ q))
+    ]
 
     free' : (a : Token) → bound_named text (bs ++ the_bound ∷ []) a ≡ None → variable_named text (vs ++ the_variable ∷ []) a ≡ None
     free' a h = let k = last_missed the_bound (λ (c : Bound). is_same text c.name a) bs h in
@@ -86,17 +87,21 @@ module _ (text : List ℕ) (bs : List Bound) (vs : List Variable) (next : ℕ) (
 
     below' : (a : Token) (v : Variable) → variable_named text (vs ++ the_variable ∷ []) a ≡ Some v → v.number < next + 1
     below' a v h = elim (last_found the_variable (λ (w : Variable). is_same text w.name a) vs v h) [
-        | inl k ↦ omega (arith, g.below a v k)
-        | inr k ↦ omega (arith, ap (λ (w : Variable). w.number) k.2) ]
+      | inl k ↦ omega (arith, g.below a v k)
+      | inr k ↦ omega (arith, ap (λ (w : Variable). w.number) k.2)
+    ]
 
     apart' : (a b : Token) (v w : Variable) → variable_named text (vs ++ the_variable ∷ []) a ≡ Some v → variable_named text (vs ++ the_variable ∷ []) b ≡ Some w → v.number ≡ w.number → text_at text a ≡ text_at text b
     apart' a b v w h k e = elim (last_found the_variable (λ (w : Variable). is_same text w.name a) vs v h) [
-        | inl h' ↦ elim (last_found the_variable (λ (w : Variable). is_same text w.name b) vs w k) [
-            | inl k' ↦ g.apart a b v w h' k' e
-            | inr k' ↦ absurd (omega (arith, g.below a v h', e, ap (λ (w : Variable). w.number) k'.2)) ]
-        | inr h' ↦ elim (last_found the_variable (λ (w : Variable). is_same text w.name b) vs w k) [
-            | inl k' ↦ absurd (omega (arith, g.below b w k', e, ap (λ (w : Variable). w.number) h'.2))
-            | inr k' ↦ sym (same_text text name a h'.1) ∙ same_text text name b k'.1 ] ]
+      | inl h' ↦ elim (last_found the_variable (λ (w : Variable). is_same text w.name b) vs w k) [
+        | inl k' ↦ g.apart a b v w h' k' e
+        | inr k' ↦ absurd (omega (arith, g.below a v h', e, ap (λ (w : Variable). w.number) k'.2))
+      ]
+      | inr h' ↦ elim (last_found the_variable (λ (w : Variable). is_same text w.name b) vs w k) [
+        | inl k' ↦ absurd (omega (arith, g.below b w k', e, ap (λ (w : Variable). w.number) h'.2))
+        | inr k' ↦ sym (same_text text name a h'.1) ∙ same_text text name b k'.1
+      ]
+    ]
 
     pub one_more : AreBound text (bs ++ (record { name = name; is_loop = loop }) ∷ []) (vs ++ (record { name = name; number = next }) ∷ []) (next + 1) more_loops more_lets
     one_more = record { used = used'; free = free'; apart = apart'; below = below' }

@@ -21,3 +21,4 @@ pub mod NamedTerms
 pub mod NamedIndices
 pub mod NamedStatements
 pub mod Named
+pub mod Sizes

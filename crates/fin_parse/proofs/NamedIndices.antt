@@ -196,7 +196,7 @@ module _ (text : List ℕ) (fills : List Fill) where
   begun_behind k x v (inr (u, is, kept)) c g t h quiet =
       let inner : (facts u).breaches (with_begun c.scope t) ≡ [] = first_nil ((facts u).breaches (with_begun c.scope t)) [] (sym (ap (λ (f : Facts). f.breaches (with_begun c.scope t)) (of_group Facts (facts_step text) (u ∷ []))) ∙ sym (ap (λ (w : Tree). (facts w).breaches (with_begun c.scope t)) is) ∙ quiet) in
       let there : is_index c.around ((elaboration u).behind c.naming (variable_number text c.naming (Some t))) ≡ true =
-          kept (begun_context c t) (record { tensors = g.tensors; named = g.named; bound = g.bound }) inner t refl h in
+      kept (begun_context c t) (record { tensors = g.tensors; named = g.named; bound = g.bound }) inner t refl h in
       ap (λ (w : Tree). is_index c.around ((elaboration w).behind c.naming (variable_number text c.naming (Some t)))) is
       ∙ ap (λ (e : Elaboration). is_index c.around (e.behind c.naming (variable_number text c.naming (Some t)))) (of_group Elaboration (elaboration_step text) (u ∷ [])) ∙ there
 

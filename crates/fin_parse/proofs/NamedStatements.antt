@@ -124,14 +124,22 @@ module _ (text : List ℕ) (fills : List Fill) where
   or_last false b h = h
 
   loop_agrees : (c : Context) (t : Token) → Agrees text fills c → Agrees text fills (in_loop c t)
-  loop_agrees c t g = record { tensors = g.tensors; named = g.named; bound =
-      one_more text c.scope.bound c.naming.bound c.next c.around.loops c.around.lets (c.next ∷ c.around.loops) c.around.lets t true
-          (still_among c.next c.around.loops) (λ x h. h) (ap (λ b. b || is_among c.around.lets c.next) (among_first c.next c.around.loops)) (λ h. among_first c.next c.around.loops) g.bound }
+  loop_agrees c t g = record {
+    tensors = g.tensors;
+    named = g.named;
+    bound =
+        one_more text c.scope.bound c.naming.bound c.next c.around.loops c.around.lets (c.next ∷ c.around.loops) c.around.lets t true
+        (still_among c.next c.around.loops) (λ x h. h) (ap (λ b. b || is_among c.around.lets c.next) (among_first c.next c.around.loops)) (λ h. among_first c.next c.around.loops) g.bound;
+  }
 
   let_agrees : (c : Context) (t : Token) → Agrees text fills c → Agrees text fills (in_let c t)
-  let_agrees c t g = record { tensors = g.tensors; named = g.named; bound =
-      one_more text c.scope.bound c.naming.bound c.next c.around.loops c.around.lets c.around.loops (c.next ∷ c.around.lets) t false
-          (λ x h. h) (still_among c.next c.around.lets) (or_last (is_among c.around.loops c.next) (is_among (c.next ∷ c.around.lets) c.next) (among_first c.next c.around.lets)) (λ h. cc) g.bound }
+  let_agrees c t g = record {
+    tensors = g.tensors;
+    named = g.named;
+    bound =
+        one_more text c.scope.bound c.naming.bound c.next c.around.loops c.around.lets c.around.loops (c.next ∷ c.around.lets) t false
+        (λ x h. h) (still_among c.next c.around.lets) (or_last (is_among c.around.loops c.next) (is_among (c.next ∷ c.around.lets) c.next) (among_first c.next c.around.lets)) (λ h. cc) g.bound;
+  }
 
   -- ---- fills of parts
 
@@ -148,12 +156,12 @@ module _ (text : List ℕ) (fills : List Fill) where
 
   -- ---- statements in a row
 
-  stmts_row : (us : List Tree) → (k : Room) (x : List Sign) → Each Holds k phrase.Stmt x us → (c : Context) → Agrees text fills c → part_breaches 0 (map facts us) c.scope c.scope ≡ [] → fills_of (map leaves_of us) text fills ≡ [] → AreNamedIn text fills c (stmts_in text (map elaboration us) c.naming c.next)
+  pub stmts_row : (us : List Tree) → (k : Room) (x : List Sign) → Each Holds k phrase.Stmt x us → (c : Context) → Agrees text fills c → part_breaches 0 (map facts us) c.scope c.scope ≡ [] → fills_of (map leaves_of us) text fills ≡ [] → AreNamedIn text fills c (stmts_in text (map elaboration us) c.naming c.next)
   stmts_row [] k x h c g quiet right = refl
   stmts_row (u ∷ us) k x (y, z, cut, first, rest) c g quiet right =
       joined_named c.around ((elaboration u).stmts None c.naming c.next) (stmts_in text (map elaboration us) c.naming (c.next + (elaboration u).binders))
-          (first c g (first_nil ((facts u).breaches c.scope) (part_breaches 0 (map facts us) c.scope c.scope) quiet) (first_nil ((leaves_of u).fills text fills) (fills_of (map leaves_of us) text fills) right) None)
-          (stmts_row us k z rest (behind c (elaboration u).binders) (behind_agrees c (elaboration u).binders g) (second_nil ((facts u).breaches c.scope) (part_breaches 0 (map facts us) c.scope c.scope) quiet) (second_nil ((leaves_of u).fills text fills) (fills_of (map leaves_of us) text fills) right))
+      (first c g (first_nil ((facts u).breaches c.scope) (part_breaches 0 (map facts us) c.scope c.scope) quiet) (first_nil ((leaves_of u).fills text fills) (fills_of (map leaves_of us) text fills) right) None)
+      (stmts_row us k z rest (behind c (elaboration u).binders) (behind_agrees c (elaboration u).binders g) (second_nil ((facts u).breaches c.scope) (part_breaches 0 (map facts us) c.scope c.scope) quiet) (second_nil ((leaves_of u).fills text fills) (fills_of (map leaves_of us) text fills) right))
 
   group_stated : (us : List Tree) → (k : Room) (x : List Sign) → Each Holds k phrase.Stmt x us → Stated text fills (Group us)
   group_stated us k x h c g quiet right lead =
@@ -184,7 +192,7 @@ module _ (text : List ℕ) (fills : List Fill) where
   pub tested : (a e b : Tree) → Valued text fills e → Stated text fills b → Stated text fills (Node form.If (a ∷ e ∷ b ∷ []))
   tested a e b h k = stated form.If (a ∷ e ∷ b ∷ []) (λ c g quiet right lead.
       one_named c.around _ (cond_named c.around ((elaboration e).value c.naming) ((elaboration b).stmts None c.naming c.next) (line_of (elaboration a).first) (line_of (elaboration b).closing)
-          (h c g (other_quiet text form.If (a ∷ e ∷ b ∷ []) c.scope refl quiet 1)) (k c g (other_quiet text form.If (a ∷ e ∷ b ∷ []) c.scope refl quiet 2) (parts_fills form.If (a ∷ e ∷ b ∷ []) right 2) None)))
+      (h c g (other_quiet text form.If (a ∷ e ∷ b ∷ []) c.scope refl quiet 1)) (k c g (other_quiet text form.If (a ∷ e ∷ b ∷ []) c.scope refl quiet 2) (parts_fills form.If (a ∷ e ∷ b ∷ []) right 2) None)))
 
   abbrev leaf_token : (t : Token) → (facts (Leaf t)).token ≡ Some t
   leaf_token t = ap (λ (f : Facts). f.token) (of_leaf Facts (facts_step text) t)
@@ -199,9 +207,9 @@ module _ (text : List ℕ) (fills : List Fill) where
   looped t r b h = stated form.Turns (Leaf t ∷ r ∷ b ∷ []) (λ c g quiet right lead.
       let parts = subst (λ (o : Option Token). part_breaches 0 (map facts (Leaf t ∷ r ∷ b ∷ [])) c.scope (scope_within LoopName o c.scope) ≡ []) (leaf_token t) (parts_quiet text form.Turns (Leaf t ∷ r ∷ b ∷ []) c.scope quiet) in
       let body : all_named (map is_named ((elaboration b).stmts None (with_variable c.naming (Some t) c.next) (c.next + 1))) (within_loop c.around c.next) ≡ true =
-          h (in_loop c t) (loop_agrees c t g) (each_quiet (map facts (Leaf t ∷ r ∷ b ∷ [])) c.scope (with_bound c.scope (record { name = t; is_loop = true })) parts 2) (parts_fills form.Turns (Leaf t ∷ r ∷ b ∷ []) right 2) None in
+      h (in_loop c t) (loop_agrees c t g) (each_quiet (map facts (Leaf t ∷ r ∷ b ∷ [])) c.scope (with_bound c.scope (record { name = t; is_loop = true })) parts 2) (parts_fills form.Turns (Leaf t ∷ r ∷ b ∷ []) right 2) None in
       one_named c.around _ (loop_named c.around c.next (elaboration r).range (is_par lead) ((elaboration b).stmts None (with_variable c.naming (elaboration (Leaf t)).first c.next) (c.next + 1)) (line_of lead) (line_of (elaboration b).closing)
-          (ap (λ (o : Option Token). all_named (map is_named ((elaboration b).stmts None (with_variable c.naming o c.next) (c.next + 1))) (within_loop c.around c.next)) (leaf_first t) ∙ body)))
+      (ap (λ (o : Option Token). all_named (map is_named ((elaboration b).stmts None (with_variable c.naming o c.next) (c.next + 1))) (within_loop c.around c.next)) (leaf_first t) ∙ body)))
 
   let_value : (f0 f1 f2 f3 f4 : Facts) (outer inner : Scope) → part_breaches 4 (f0 ∷ f1 ∷ f2 ∷ f3 ∷ f4 ∷ []) outer inner ≡ [] → (f3.breaches outer ≡ []) × (f4.breaches inner ≡ [])
   let_value f0 f1 f2 f3 f4 outer inner h =
@@ -216,7 +224,7 @@ module _ (text : List ℕ) (fills : List Fill) where
       let (outer, inner) = let_value (facts l) (facts (Leaf t)) (facts e) (facts v) (facts b) c.scope (with_bound c.scope (record { name = t; is_loop = false })) parts in
       let body : all_named (map is_named ((elaboration b).stmts None (with_variable c.naming (Some t) c.next) (c.next + 1))) (within_let c.around c.next) ≡ true = k (in_let c t) (let_agrees c t g) inner (parts_fills form.Let (l ∷ Leaf t ∷ e ∷ v ∷ b ∷ []) right 4) None in
       one_named c.around _ (bind_named c.around c.next ((elaboration v).value c.naming) ((elaboration b).stmts None (with_variable c.naming (elaboration (Leaf t)).first c.next) (c.next + 1)) (line_of (elaboration l).first) (line_of (elaboration b).closing)
-          (h c g outer) (ap (λ (o : Option Token). all_named (map is_named ((elaboration b).stmts None (with_variable c.naming o c.next) (c.next + 1))) (within_let c.around c.next)) (leaf_first t) ∙ body)))
+      (h c g outer) (ap (λ (o : Option Token). all_named (map is_named ((elaboration b).stmts None (with_variable c.naming o c.next) (c.next + 1))) (within_let c.around c.next)) (leaf_first t) ∙ body)))
 
   -- ---- tensors
 
@@ -282,7 +290,7 @@ module _ (text : List ℕ) (fills : List Fill) where
   pub declaring : (t : Token) (v : Tree) → is_declares t.kind ≡ true → IsLiteral text fills v → Changes text fills (Node form.Declaration (Leaf t ∷ v ∷ []))
   declaring t v sign literal c g quiet right name used fill =
       let all : (leaves_of (Node form.Declaration (Leaf t ∷ v ∷ []))).all ≡ t ∷ (leaves_of v).all =
-          ap (λ (l : Leaves). l.all) (of_node Leaves leaves_step form.Declaration (Leaf t ∷ v ∷ [])) ∙ ap (λ ts. ts ++ ((leaves_of v).all ++ [])) (leaf_all t) ∙ ap (λ ts. t ∷ ts) (append-nil (leaves_of v).all) in
+      ap (λ (l : Leaves). l.all) (of_node Leaves leaves_step form.Declaration (Leaf t ∷ v ∷ [])) ∙ ap (λ ts. ts ++ ((leaves_of v).all ++ [])) (leaf_all t) ∙ ap (λ ts. t ∷ ts) (append-nil (leaves_of v).all) in
       let count : (facts (Node form.Declaration (Leaf t ∷ v ∷ []))).count ≡ None = ap (λ (f : Facts). f.count) (of_node Facts (facts_step text) form.Declaration (Leaf t ∷ v ∷ [])) in
       let breach = subst (λ (b : Bool). (if b then unlike (fill_named text fills name) name (literal_of (leaves_of v).all) else []) ≡ []) sign (subst (λ ts. fill_breach text fills (Some name) ts ≡ []) all fill) in
       ap (λ (ss : List Stmt). all_named (map is_named ss) c.around) (node_stmts form.Declaration (Leaf t ∷ v ∷ []) (Some name) c.naming c.next)

@@ -85,10 +85,12 @@ module _ (text : List ℕ) (fills : List Fill) (c : Context) (g : Agrees text fi
   access_named name n at count ok h =
       let (t, there, same) = used_tensor name n (tensor_named text c.scope.tensors name) h in
       let (k, d, at_k, header, levels, few) = g.named.named name t there in
-      let long : length at ≡ length d.format.levels = levels_agree n t.levels at count same few ∙ levels in
-      (k, ap (λ ts. tensor_from 0 text ts name) (sym g.tensors) ∙ at_k,
-          both_true (holds_of (λ (e : Header). length at == length e.format.levels) (slice_get q.headers k)) (list_all (is_index q) at)
-              (ap (λ (o : Option Header). holds_of (λ (e : Header). length at == length e.format.levels) o) header ∙ (Decides-eqb (length at) (length d.format.levels)).1 long) ok)
+      let long : length at ≡ length d.format.levels = levels_agree n t.levels at count same few ∙ levels in (
+        k,
+        ap (λ ts. tensor_from 0 text ts name) (sym g.tensors) ∙ at_k,
+        both_true (holds_of (λ (e : Header). length at == length e.format.levels) (slice_get q.headers k)) (list_all (is_index q) at)
+            (ap (λ (o : Option Header). holds_of (λ (e : Header). length at == length e.format.levels) o) header ∙ (Decides-eqb (length at) (length d.format.levels)).1 long) ok,
+      )
 
   read_is_named : (name : Token) (n : ℕ) (at : List Index) → n ≡ capped (length at) → list_all (is_index q) at ≡ true → tensor_use name (Some n) (tensor_named text c.scope.tensors name) ≡ []
       → is_named_expr (named_value text (Some name) true at c.naming) q ≡ true
