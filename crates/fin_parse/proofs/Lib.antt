@@ -12,3 +12,7 @@ pub mod Finds
 pub mod Parts
 pub mod HeaderParts
 pub mod FormParts
+pub mod HeaderRows
+pub mod WordPlacement
+pub mod HeadSound
+pub mod HeadLinks

@@ -14,3 +14,4 @@ pub mod TextNames
 pub mod FormatWords
 pub mod TextForms
 pub mod Verdict
+pub mod HeaderTrees

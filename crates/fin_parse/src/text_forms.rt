@@ -94,7 +94,7 @@ fn format_breach(first: Option<Token>, placed: bool) -> Option<Refusal>
     }
 }
 
-fn given_fill(tokens: &[Token]) -> Literal
+pub(crate) fn given_fill(tokens: &[Token]) -> Literal
     ensures value { result ≡ spec.given_fill tokens.now }
 {
     match tokens {
