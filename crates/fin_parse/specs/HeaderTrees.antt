@@ -16,6 +16,7 @@ use Rattle.fin_lex.specs.declared.token.TokenKind.{TokenKind}
 use Rattle.fin_lex.specs.declared.token.TokenKind.TheVariants as kind
 use Rattle.fin_parse.specs.declared.scope.Literal.{Literal}
 use Rattle.fin_parse.specs.declared.trees.Text.{Text}
+use Rattle.fin_parse.specs.declared.reserved.TheConstants.{IN, OUT, DENSE, LIST, RUNS, BAND, DICT}
 use Rattle.fin_parse.specs.Names.{text_at}
 use Rattle.fin_parse.specs.Fills.{number_of}
 use Rattle.fin_parse.specs.HeaderNames.{levels_of}
@@ -26,10 +27,10 @@ use Rattle.fin_parse.specs.Verdict.{IsAccepted}
 
 -- by the first word
 abbrev pub kind_of : List Token → Kind
-kind_of words = if begins_with 0 words then Input else (if begins_with 1 words then Output else Local)
+kind_of words = if begins_with IN words then Input else (if begins_with OUT words then Output else Local)
 
 abbrev pub level_at : ℕ → Option Level
-level_at k = if k == 19 then Some Dense else (if k == 20 then Some SortedList else (if k == 21 then Some Runs else (if k == 22 then Some Band else (if k == 23 then Some Dict else None))))
+level_at k = if k == DENSE then Some Dense else (if k == LIST then Some SortedList else (if k == RUNS then Some Runs else (if k == BAND then Some Band else (if k == DICT then Some Dict else None))))
 
 -- the level that a word names
 abbrev pub level_of : TokenKind → Option Level

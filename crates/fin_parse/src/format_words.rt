@@ -4,24 +4,8 @@ ghost use Rattle.std.specs.List.{list_all, list_any, count_by};
 ghost use Rattle.fin_parse.specs.FormatWords as spec;
 
 use crate::headers::levels_of;
+use crate::reserved::{ATOMIC, BAND, DICT, ELEMENT, LIST, MUTEX, RUNS, SHARD};
 use fin_lex::{Token, TokenKind};
-
-/// The places of reserved words in their table.
-const LIST: u8 = 20;
-
-const RUNS: u8 = 21;
-
-const BAND: u8 = 22;
-
-const DICT: u8 = 23;
-
-const ELEMENT: u8 = 24;
-
-const ATOMIC: u8 = 25;
-
-pub(crate) const MUTEX: u8 = 26;
-
-const SHARD: u8 = 27;
 
 /// Whether the words of a format, which end with `element`, are well placed in the header of an input or of another
 /// tensor.

@@ -4,8 +4,9 @@ ghost use Rattle.std.specs.List.{prefix_len};
 ghost use Rattle.fin_parse.specs.HeaderNames.{levels_of as count_of};
 ghost use Rattle.fin_parse.specs.HeaderTrees as spec;
 
-use crate::format_words::{MUTEX, has_atomic, has_mutex, has_shard, is_word};
+use crate::format_words::{has_atomic, has_mutex, has_shard, is_word};
 use crate::headers::levels_of;
+use crate::reserved::{BAND, DENSE, DICT, LIST, MUTEX, RUNS};
 use fin_lex::{Token, TokenKind};
 use fin_tensor::{Level, Levels, Seq, Wrap};
 use std::alloc::{AllocError, Global};
@@ -40,11 +41,11 @@ fn level_at(place: u8) -> Option<Level>
     ensures value { result ≡ spec.level_at place }
 {
     match place {
-        19 => Some(Level::Dense),
-        20 => Some(Level::List),
-        21 => Some(Level::Runs),
-        22 => Some(Level::Band),
-        23 => Some(Level::Dict),
+        DENSE => Some(Level::Dense),
+        LIST => Some(Level::List),
+        RUNS => Some(Level::Runs),
+        BAND => Some(Level::Band),
+        DICT => Some(Level::Dict),
         _ => None,
     }
 }

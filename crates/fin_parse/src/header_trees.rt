@@ -12,6 +12,7 @@ use crate::format_words::begins_with;
 use crate::formats::{levels_in, wrap_of};
 use crate::heads::{Head, head_of};
 use crate::names::text_at;
+use crate::reserved::{IN, OUT};
 use crate::scope::Literal;
 use crate::text_forms::given_fill;
 use crate::trees::Text;
@@ -19,11 +20,6 @@ use fin_ast::{Header, Kind};
 use fin_lex::Token;
 use fin_tensor::{Format, Name, Nums, Seq};
 use std::alloc::{AllocError, Global};
-
-/// The places of reserved words in their table.
-const IN: u8 = 0;
-
-const OUT: u8 = 1;
 
 /// The headers of a text that keeps the rules, in order: at most 64, with different names.
 pub(crate) fn headers(alloc: Global, text: &[u8], trees: &Text) -> Result<Seq<Header>, AllocError>

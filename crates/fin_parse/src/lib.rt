@@ -21,6 +21,7 @@ mod headers;
 mod heads;
 mod names;
 mod reader;
+mod reserved;
 mod roles;
 mod scope;
 mod syntax;
