@@ -1,5 +1,5 @@
 -- The headers of an accepted text are sound.
-use Rattle.std.proofs.Common.{◌≡◌, ◌≢◌, ℕ, zero, suc, ◌+◌, ◌-◌, ◌^◌, ◌<◌, ◌≤◌, Bool, true, false, cond, not, ◌==◌, nat_lt, List, [], ◌∷◌, ◌++◌, map, length, Option, Some, None, IsTrue, slice_index_or, ℤ, pos, negsuc, refl, sym, ap, ◌∙◌, subst, arith, eqb-true}
+use Rattle.std.proofs.Common.{◌≡◌, ℕ, ◌-◌, ◌^◌, ◌<◌, ◌≤◌, Bool, true, false, cond, not, ◌==◌, nat_lt, List, [], ◌∷◌, ◌++◌, map, length, Some, pos, negsuc, refl, sym, ap, ◌∙◌, arith, eqb-true}
 use Rattle.std.specs.List.{All}
 use Rattle.std.proofs.lemmas.Bool.{ltb-true}
 use Rattle.std.proofs.lemmas.Int.{ints}
@@ -13,7 +13,6 @@ use Rattle.fin_lex.specs.declared.token.Token.{Token}
 use Rattle.fin_lex.specs.declared.token.TokenKind.{TokenKind}
 use Rattle.fin_lex.specs.declared.token.TokenKind.TheVariants as kind
 use Rattle.fin_parse.specs.declared.class.Class.TheVariants as class
-use Rattle.fin_parse.specs.declared.class.TheConstants.{RESERVED_CLASSES, SYMBOL_CLASSES}
 use Rattle.fin_parse.specs.declared.grammar.Phrase.TheVariants.{Header}
 use Rattle.fin_parse.specs.declared.tree.Tree.{Tree}
 use Rattle.fin_parse.specs.declared.tree.Room.{Room}
@@ -21,15 +20,14 @@ use Rattle.fin_parse.specs.declared.scope.Tensor.{Tensor}
 use Rattle.fin_parse.specs.declared.trees.Text.{Text}
 use Rattle.fin_parse.specs.Classes.{class_of}
 use Rattle.fin_parse.specs.Syntax.{Sign, IsGroup, none, more}
-use Rattle.fin_parse.specs.Names.{breach, part_breaches, facts_of}
-use Rattle.fin_parse.specs.Fills.{number_of, literal_of, negated, head_token}
+use Rattle.fin_parse.specs.Names.{part_breaches, facts_of}
+use Rattle.fin_parse.specs.Fills.{number_of, literal_of, head_token}
 use Rattle.fin_parse.specs.FormatWords.{is_placed, begins_with}
-use Rattle.fin_parse.specs.HeaderNames.{levels_of, shape_count, shape_breach, name_breach, head_breaches, header_breaches, with_tensor, tensors_of}
+use Rattle.fin_parse.specs.HeaderNames.{levels_of, shape_count, shape_breach, name_breach, head_breaches, header_breaches, with_tensor}
 use Rattle.fin_parse.specs.TextForms.{given_fill, format_breach, head_format, format_breaches, known_fills}
 use Rattle.fin_parse.specs.TextNames.{outermost}
 use Rattle.fin_parse.specs.Leaves.{HeadParts, header_of, leaves_of, fills_of}
-use Rattle.fin_parse.specs.HeaderTrees.{integer_of, numbers_in, shape_of, levels_in, IsSound, IsAcceptedText}
-use Rattle.fin_parse.proofs.Table.{impossible}
+use Rattle.fin_parse.specs.HeaderTrees.{integer_of, numbers_in, shape_of, IsSound, IsAcceptedText}
 use Rattle.fin_parse.proofs.HeaderRows.{IsLiteral, plus, minus, widest, IsFill, absent_fill, given, IsHead, a_header}
 use Rattle.fin_parse.proofs.WordPlacement.{length-levels, placed_as}
 

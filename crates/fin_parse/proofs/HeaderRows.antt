@@ -1,10 +1,7 @@
 -- The parts of a header of the grammar.
-use Rattle.std.proofs.Common.{◌≡◌, ℕ, zero, suc, ◌+◌, ◌-◌, ◌^◌, ◌<◌, ◌≤◌, Bool, true, false, cond, not, ◌&&◌, ◌||◌, ◌==◌, nat_lt, List, [], ◌∷◌, ◌++◌, map, slice_index_or, pos, negsuc, refl, sym, ap, ◌∙◌, subst, inl, inr, arith}
+use Rattle.std.proofs.Common.{◌≡◌, List, [], ◌∷◌, ◌++◌, map, refl, sym, ap, ◌∙◌, subst}
 use Rattle.std.proofs.lemmas.List.{append-nil}
-use Rattle.fin_base.specs.Words.{IsWord}
 use Rattle.fin_lex.specs.declared.token.Token.{Token}
-use Rattle.fin_lex.specs.declared.token.TokenKind.{TokenKind}
-use Rattle.fin_lex.specs.declared.token.TokenKind.TheVariants as kind
 use Rattle.fin_parse.specs.declared.class.Class.{Class}
 use Rattle.fin_parse.specs.declared.class.Class.TheVariants as class
 use Rattle.fin_parse.specs.declared.grammar.Phrase.{Phrase}
@@ -12,18 +9,14 @@ use Rattle.fin_parse.specs.declared.grammar.Phrase.TheVariants as phrase
 use Rattle.fin_parse.specs.declared.grammar.Form.{Form}
 use Rattle.fin_parse.specs.declared.grammar.Form.TheVariants as form
 use Rattle.fin_parse.specs.declared.grammar.Symbol.{Symbol}
-use Rattle.fin_parse.specs.declared.grammar.Symbol.TheVariants.{Word, One, Many, Maybe, Deeper, InLoop}
+use Rattle.fin_parse.specs.declared.grammar.Symbol.TheVariants.{Word, One, Many, Maybe}
 use Rattle.fin_parse.specs.declared.tree.Tree.{Tree, fold-roll-Tree}
 use Rattle.fin_parse.specs.declared.tree.Tree.TheOpen.{Tree-F}
 use Rattle.fin_parse.specs.declared.tree.Tree.TheVariants.{Leaf, Node, Group, rolls-Leaf, rolls-Node, rolls-Group}
 use Rattle.fin_parse.specs.declared.tree.Room.{Room}
-use Rattle.fin_parse.specs.declared.scope.Literal.{Literal}
 use Rattle.fin_parse.specs.Classes.{class_of}
 use Rattle.fin_parse.specs.Grammar.{phrase_of, row_of}
-use Rattle.fin_parse.specs.Fills.{number_of, literal_of}
-use Rattle.fin_parse.specs.TextForms.{given_fill}
 use Rattle.fin_parse.specs.Leaves.{HeadParts, Leaves, leaves_step, head_at, leaves_of, all_of, tokens_of, header_of}
-use Rattle.fin_parse.specs.HeaderTrees.{integer_of}
 use Rattle.fin_parse.specs.Syntax.{Sign, IsTree, word, one, many, absent, present, IsRow, done, part, IsGroup, none, more}
 
 -- levels and decorations, and then `element`

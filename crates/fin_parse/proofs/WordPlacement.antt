@@ -1,6 +1,6 @@
 -- The placement of words is that of the levels and the decoration that they name.
 use Rattle.std.proofs.Common.{◌≡◌, ◌≢◌, ℕ, zero, suc, ◌+◌, ◌<◌, ◌≤◌, Bool, true, false, cond, not, ◌&&◌, ◌||◌, ◌==◌, nat_le, List, [], ◌∷◌, take, length, Option, Some, None, IsTrue, slice_index_or, refl, sym, ap, ◌∙◌, subst, arith, eqb-true}
-use Rattle.std.specs.List.{filter_map, cons_option, count_by, list_all, list_any, prefix_len}
+use Rattle.std.specs.List.{cons_option, count_by, list_all, list_any, prefix_len}
 use Rattle.std.proofs.lemmas.Bool.{leb-true, eqb-false}
 use Rattle.std.proofs.lemmas.List.Sums.{sum_by-cons}
 use Rattle.fin_lex.specs.declared.token.Token.{Token}
@@ -8,18 +8,16 @@ use Rattle.fin_lex.specs.declared.token.TokenKind.{TokenKind}
 use Rattle.fin_lex.specs.declared.token.TokenKind.TheVariants as kind
 use Rattle.fin_tensor.specs.declared.format.Level.{Level}
 use Rattle.fin_tensor.specs.declared.format.Level.TheVariants.{Dense, List as SortedList, Runs, Band, Dict}
-use Rattle.fin_tensor.specs.declared.format.Wrap.{Wrap}
 use Rattle.fin_tensor.specs.declared.format.Wrap.TheVariants.{Bare, Atomic, Mutex, Shard}
 use Rattle.fin_tensor.specs.Placement as levels
 use Rattle.fin_ast.specs.declared.header.Kind.TheVariants.{Input, Output, Local}
 use Rattle.fin_ast.specs.Kinds.{is_input}
-use Rattle.fin_parse.specs.declared.class.Class.{Class}
 use Rattle.fin_parse.specs.declared.class.Class.TheVariants as class
 use Rattle.fin_parse.specs.declared.class.TheConstants.{RESERVED_CLASSES}
 use Rattle.fin_parse.specs.Classes.{class_of}
 use Rattle.fin_parse.specs.HeaderNames.{is_level, levels_of}
 use Rattle.fin_parse.specs.FormatWords as words
-use Rattle.fin_parse.specs.HeaderTrees.{kind_of, level_at, level_of, levels_in, levels_before, is_no_mutex, wrap_of}
+use Rattle.fin_parse.specs.HeaderTrees.{kind_of, level_of, levels_in, levels_before, is_no_mutex, wrap_of}
 use Rattle.fin_parse.proofs.Table.{impossible, both, implied}
 use Rattle.fin_parse.proofs.Leads.{and_both, or_false}
 use Rattle.fin_parse.proofs.HeaderRows.{IsFormat, ends, goes}

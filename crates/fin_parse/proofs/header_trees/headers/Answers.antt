@@ -1,4 +1,4 @@
-use Rattle.std.proofs.Common.{◌≡◌, ◌≤◌, length, map, arith}
+use Rattle.std.proofs.Common.{map, arith}
 use Rattle.fin_parse.specs.Leaves.{head_parts, header_of}
 use Rattle.fin_parse.specs.HeaderTrees.{AreHeadersOf}
 use Rattle.fin_parse.proofs.HeadLinks.{sound_at, made_more, made_all, few_headers, names_of_accepted_differ}

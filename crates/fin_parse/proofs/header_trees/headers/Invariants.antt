@@ -1,4 +1,4 @@
-use Rattle.std.proofs.Common.{◌≡◌, map, take}
+use Rattle.std.proofs.Common.{map, take}
 use Rattle.fin_parse.specs.Leaves.{header_of}
 use Rattle.fin_parse.specs.HeaderTrees.{AreHeadersOf}
 use Rattle.fin_parse.proofs.header_trees.headers.Given as goal
