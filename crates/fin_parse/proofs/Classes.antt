@@ -1,5 +1,5 @@
 -- No token is the end.
-use Rattle.std.proofs.Common.{◌≡◌, ℕ, zero, suc, ◌^◌, Bool, true, false, not, ◌&&◌, nat_lt, cond, List, [], ◌∷◌, slice_index_or, refl, sym, ap, ◌∙◌}
+use Rattle.std.proofs.Common.{◌≡◌, ℕ, zero, suc, ◌^◌, Bool, true, false, not, ◌&&◌, ◌==◌, nat_lt, cond, List, [], ◌∷◌, slice_index_or, refl, sym, ap, ◌∙◌}
 use Rattle.fin_lex.specs.declared.token.Token.{Token}
 use Rattle.fin_lex.specs.declared.token.TokenKind.{TokenKind}
 use Rattle.fin_lex.specs.declared.token.TokenKind.TheVariants as kind
@@ -23,13 +23,14 @@ at [] i h is = cc
 at (c ∷ cs) zero h is = ends_not c (both (not (same_class c class.End)) (none_ends cs) h).0 is
 at (c ∷ cs) (suc i) h is = at cs i (both (not (same_class c class.End)) (none_ends cs) h).1 is
 
-number : (b : Bool) → cond b class.Number class.Widest ≡ class.End → ⊥
-number true h = cc
-number false h = cc
+number : (small widest : Bool) → cond small class.Number (cond widest class.Widest class.Unknown) ≡ class.End → ⊥
+number true widest h = cc
+number false true h = cc
+number false false h = cc
 
 no_end : (k : TokenKind) → class_of k ≡ class.End → ⊥
 no_end kind.Name h = cc
-no_end (kind.Number n) h = number (nat_lt n (2 ^ 63)) h
+no_end (kind.Number n) h = number (nat_lt n (2 ^ 63)) (n == 2 ^ 63) h
 no_end (kind.Reserved k) h = at RESERVED_CLASSES k refl h
 no_end (kind.Symbol k) h = at SYMBOL_CLASSES k refl h
 

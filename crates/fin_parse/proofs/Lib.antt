@@ -22,3 +22,7 @@ pub mod NamedIndices
 pub mod NamedStatements
 pub mod Named
 pub mod Sizes
+pub mod HeaderRows
+pub mod WordPlacement
+pub mod HeadSound
+pub mod HeadLinks

@@ -4,6 +4,7 @@ use Rattle.std.specs.List.{count_by, list_all, list_any}
 use Rattle.fin_lex.specs.declared.token.Token.{Token}
 use Rattle.fin_lex.specs.declared.token.TokenKind.{TokenKind}
 use Rattle.fin_lex.specs.declared.token.TokenKind.TheVariants as kind
+use Rattle.fin_parse.specs.declared.reserved.TheConstants.{LIST, RUNS, BAND, DICT, ELEMENT, ATOMIC, MUTEX, SHARD}
 use Rattle.fin_parse.specs.HeaderNames.{levels_of}
 
 -- a reserved word, by its place
@@ -15,24 +16,24 @@ abbrev pub is_word : ℕ → Token → Bool
 is_word place t = is_reserved place t.kind
 
 abbrev pub is_atomic : Token → Bool
-is_atomic t = is_word 25 t
+is_atomic t = is_word ATOMIC t
 
 abbrev pub is_mutex : Token → Bool
-is_mutex t = is_word 26 t
+is_mutex t = is_word MUTEX t
 
 abbrev pub is_shard : Token → Bool
-is_shard t = is_word 27 t
+is_shard t = is_word SHARD t
 
 abbrev pub is_decoration : Token → Bool
 is_decoration t = is_atomic t || is_mutex t || is_shard t
 
 -- dense, or no level
 abbrev pub is_dense : Token → Bool
-is_dense t = not (is_word 20 t || is_word 21 t || is_word 22 t || is_word 23 t)
+is_dense t = not (is_word LIST t || is_word RUNS t || is_word BAND t || is_word DICT t)
 
 -- dense or dict, or no level
 abbrev pub is_dense_or_dict : Token → Bool
-is_dense_or_dict t = not (is_word 20 t || is_word 21 t || is_word 22 t)
+is_dense_or_dict t = not (is_word LIST t || is_word RUNS t || is_word BAND t)
 
 abbrev pub begins_with : ℕ → List Token → Bool
 begins_with place [] = false
@@ -41,7 +42,7 @@ begins_with place (t ∷ ts) = is_word place t
 -- each such word stands directly before `element`
 abbrev pub stands_last : ℕ → List Token → Bool
 stands_last place [] = true
-stands_last place (t ∷ ts) = (not (is_word place t) || begins_with 24 ts) && stands_last place ts
+stands_last place (t ∷ ts) = (not (is_word place t) || begins_with ELEMENT ts) && stands_last place ts
 
 -- At most 8 levels and one decoration, which an input has not; runs and atomic directly before the elements; atomic and
 -- mutex only where every level is dense; shard first, and only where every level is dense or dict.
@@ -50,8 +51,8 @@ is_placed input words =
     nat_le (levels_of words) 8
     && nat_le (count_by is_decoration words) 1
     && not (input && list_any is_decoration words)
-    && stands_last 21 words
-    && stands_last 25 words
+    && stands_last RUNS words
+    && stands_last ATOMIC words
     && (not (list_any is_atomic words) || list_all is_dense words)
     && (not (list_any is_mutex words) || list_all is_dense words)
-    && (not (list_any is_shard words) || (begins_with 27 words && list_all is_dense_or_dict words))
+    && (not (list_any is_shard words) || (begins_with SHARD words && list_all is_dense_or_dict words))

@@ -7,13 +7,14 @@ use Rattle.fin_lex.specs.declared.token.Token.{Token}
 use Rattle.fin_lex.specs.declared.token.TokenKind.{TokenKind}
 use Rattle.fin_lex.specs.declared.token.TokenKind.TheVariants as kind
 use Rattle.fin_parse.specs.declared.scope.Tensor.{Tensor}
+use Rattle.fin_parse.specs.declared.reserved.TheConstants.{DENSE, DICT}
 use Rattle.fin_parse.specs.Names.{breach, binding, tensor_named}
 use Rattle.fin_parse.specs.Fills.{head_token}
 use Rattle.fin_parse.specs.Leaves.{HeadParts}
 
 -- a level, and not a decoration or `element`
 abbrev pub is_level : TokenKind → Bool
-is_level (kind.Reserved k) = nat_le 19 k && nat_le k 23
+is_level (kind.Reserved k) = nat_le DENSE k && nat_le k DICT
 is_level _ = false
 
 abbrev pub levels_of : List Token → ℕ

@@ -16,3 +16,4 @@ pub mod TextForms
 pub mod Verdict
 pub mod Terms
 pub mod Elaboration
+pub mod HeaderTrees

@@ -6,6 +6,7 @@ use Rattle.fin_lex.specs.declared.token.Token.{Token}
 use Rattle.fin_parse.specs.declared.scope.Literal.{Literal}
 use Rattle.fin_parse.specs.declared.scope.Fill.{Fill}
 use Rattle.fin_parse.specs.declared.trees.Text.{Text}
+use Rattle.fin_parse.specs.declared.reserved.TheConstants.{IN}
 use Rattle.fin_parse.specs.Names.{breach}
 use Rattle.fin_parse.specs.Fills.{head_token, literal_of}
 use Rattle.fin_parse.specs.FormatWords.{is_placed, begins_with}
@@ -17,7 +18,7 @@ format_breach None placed = []
 format_breach (Some t) placed = if placed then [] else breach F1 t
 
 abbrev pub head_format : HeadParts → List Refusal
-head_format h = format_breach (head_token h.kind) (is_placed (begins_with 0 h.kind) h.format)
+head_format h = format_breach (head_token h.kind) (is_placed (begins_with IN h.kind) h.format)
 
 abbrev pub format_breaches : List HeadParts → List Refusal
 format_breaches [] = []

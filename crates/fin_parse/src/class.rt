@@ -136,8 +136,10 @@ pub fn class_of(kind: TokenKind) -> Class
         TokenKind::Number(value) => {
             if value < 1 << 63 {
                 Class::Number
-            } else {
+            } else if value == 1 << 63 {
                 Class::Widest
+            } else {
+                Class::Unknown
             }
         }
         TokenKind::Reserved(place) => at(&RESERVED_CLASSES, place),

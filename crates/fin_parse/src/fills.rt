@@ -168,7 +168,7 @@ fn negated(magnitude: u64) -> Literal
     }
 }
 
-fn number_of(kind: TokenKind) -> u64
+pub(crate) fn number_of(kind: TokenKind) -> u64
     ensures value { result ≡ spec.number_of kind }
 {
     match kind {

@@ -4,24 +4,8 @@ ghost use Rattle.std.specs.List.{list_all, list_any, count_by};
 ghost use Rattle.fin_parse.specs.FormatWords as spec;
 
 use crate::headers::levels_of;
+use crate::reserved::{ATOMIC, BAND, DICT, ELEMENT, LIST, MUTEX, RUNS, SHARD};
 use fin_lex::{Token, TokenKind};
-
-/// The places of reserved words in their table.
-const LIST: u8 = 20;
-
-const RUNS: u8 = 21;
-
-const BAND: u8 = 22;
-
-const DICT: u8 = 23;
-
-const ELEMENT: u8 = 24;
-
-const ATOMIC: u8 = 25;
-
-const MUTEX: u8 = 26;
-
-const SHARD: u8 = 27;
 
 /// Whether the words of a format, which end with `element`, are well placed in the header of an input or of another
 /// tensor.
@@ -50,19 +34,19 @@ fn has_decoration(words: &[Token]) -> bool
     words.iter().any(|word| is_decoration(*word))
 }
 
-fn has_atomic(words: &[Token]) -> bool
+pub(crate) fn has_atomic(words: &[Token]) -> bool
     ensures value { result ≡ list_any spec.is_atomic words.now }
 {
     words.iter().any(|word| is_word(ATOMIC, *word))
 }
 
-fn has_mutex(words: &[Token]) -> bool
+pub(crate) fn has_mutex(words: &[Token]) -> bool
     ensures value { result ≡ list_any spec.is_mutex words.now }
 {
     words.iter().any(|word| is_word(MUTEX, *word))
 }
 
-fn has_shard(words: &[Token]) -> bool
+pub(crate) fn has_shard(words: &[Token]) -> bool
     ensures value { result ≡ list_any spec.is_shard words.now }
 {
     words.iter().any(|word| is_word(SHARD, *word))
@@ -120,7 +104,7 @@ fn is_dense_or_dict(word: Token) -> bool
     !(is_word(LIST, word) || is_word(RUNS, word) || is_word(BAND, word))
 }
 
-fn is_word(place: u8, word: Token) -> bool
+pub(crate) fn is_word(place: u8, word: Token) -> bool
     ensures value { result ≡ spec.is_word place word }
 {
     match word.kind {

@@ -7,6 +7,7 @@ ghost use Rattle.fin_parse.specs.Names.{first_of};
 use crate::fills::head_token;
 use crate::heads::{Head, head_of};
 use crate::names::{binding, breach, tensor_named};
+use crate::reserved::{DENSE, DICT};
 use crate::scope::Tensor;
 use crate::tree::Tree;
 use fin_base::{Refusal, Rule};
@@ -105,7 +106,7 @@ fn is_level(kind: TokenKind) -> bool
     ensures value { result ≡ spec.is_level kind }
 {
     match kind {
-        TokenKind::Reserved(place) => 19 <= place && place <= 23,
+        TokenKind::Reserved(place) => DENSE <= place && place <= DICT,
         TokenKind::Name => false,
         TokenKind::Number(_) => false,
         TokenKind::Symbol(_) => false,

@@ -6,7 +6,7 @@ use crate::scope::{Bound, Tensor};
 use fin_base::{Refusal, Rule};
 use fin_lex::Token;
 
-fn text_at(text: &[u8], token: Token) -> &[u8]
+pub(crate) fn text_at(text: &[u8], token: Token) -> &[u8]
     ensures value { result.now ≡ spec.text_at text.now token }
 {
     let to = text.len().min(token.to as usize);

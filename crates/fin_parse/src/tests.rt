@@ -1,7 +1,10 @@
+use crate::header_trees::headers;
 use crate::read_trees;
 use crate::syntax::read_syntax;
+use fin_ast::{Header, Kind};
 use fin_base::{Fail as Refused, Rule};
 use fin_lex::lex;
+use fin_tensor::{Level, Seq, Wrap};
 use std::alloc::Global;
 use std::test::Fail;
 
@@ -195,6 +198,75 @@ fn looks_at_names_formats_and_fills(rt: HostRuntime) -> Result<(), Fail> {
     ];
     for (text, wanted) in table {
         assert_eq!(rt; broken(rt.alloc(), text)?, wanted);
+    }
+    Ok(())
+}
+
+/// The headers of a short text that keeps the rules.
+fn headers_of(alloc: Global, text: &[u8]) -> Result<Seq<Header>, Refused> {
+    if text.len() > 4096 {
+        return Ok(Seq::new(alloc));
+    }
+    let tokens = lex(alloc, text, 1)?;
+    let trees = read_trees(alloc, text, &tokens, 99)?;
+    let headers = headers(alloc, text, &trees)?;
+    Ok(headers)
+}
+
+#[test]
+fn gives_headers(rt: HostRuntime) -> Result<(), Fail> {
+    let text =
+        b"in A dense list element\nout y dense mutex dense element fill -9223372036854775808\nshape 3 9223372036854775807\ntmp\nw_2 shard dict dense element fill 7\ntmp s element shape\nout v dense atomic element fill -0";
+    let table: [(Kind, &[u8], &[Level], Wrap, i64, u32); 5] = [
+        (
+            Kind::Input,
+            b"A",
+            &[Level::Dense, Level::List],
+            Wrap::Bare,
+            0,
+            1,
+        ),
+        (
+            Kind::Output,
+            b"y",
+            &[Level::Dense, Level::Dense],
+            Wrap::Mutex(1),
+            i64::MIN,
+            2,
+        ),
+        (
+            Kind::Local,
+            b"w_2",
+            &[Level::Dict, Level::Dense],
+            Wrap::Shard,
+            7,
+            4,
+        ),
+        (Kind::Local, b"s", &[], Wrap::Bare, 0, 6),
+        (Kind::Output, b"v", &[Level::Dense], Wrap::Atomic, 0, 7),
+    ];
+    let shapes: [Option<&[u64]>; 5] = [
+        None,
+        Some(&[3, 9223372036854775807]),
+        None,
+        Some(&[]),
+        None,
+    ];
+    let headers = headers_of(rt.alloc(), text)?;
+    assert_eq!(rt; headers.len(), 5);
+    for (header, (kind, name, levels, wrap, fill, line)) in headers.as_slice().iter().zip(table) {
+        assert_eq!(rt; header.kind, kind);
+        assert_eq!(rt; header.name.as_slice(), name);
+        assert_eq!(rt; header.format.levels.as_slice(), levels);
+        assert_eq!(rt; header.format.wrap, wrap);
+        assert_eq!(rt; header.format.fill, fill);
+        assert_eq!(rt; header.line, line);
+    }
+    for (header, shape) in headers.as_slice().iter().zip(shapes) {
+        assert_eq!(rt; header.shape.is_some(), shape.is_some());
+        if let (Some(numbers), Some(wanted)) = (&header.shape, shape) {
+            assert_eq!(rt; numbers.as_slice(), wanted);
+        }
     }
     Ok(())
 }

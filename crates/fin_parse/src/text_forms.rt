@@ -9,6 +9,7 @@ use crate::fills::{check_fills, head_token, literal_of};
 use crate::format_words::{begins_with, is_placed};
 use crate::heads::{Head, head_of};
 use crate::names::breach;
+use crate::reserved::IN;
 use crate::scope::{Fill, Literal};
 use crate::tree::Tree;
 use crate::trees::Text;
@@ -72,7 +73,7 @@ fn add_fill(known: &mut Vec<Fill>, head: &Head) -> Result<(), AllocError>
 fn head_format(head: &Head) -> Option<Refusal>
     ensures value { result ≡ first_of (spec.head_format (head_parts head.now)) }
 {
-    let input = begins_with(0, head.kind.as_slice());
+    let input = begins_with(IN, head.kind.as_slice());
     format_breach(
         head_token(head.kind.as_slice()),
         is_placed(input, head.format.as_slice()),
@@ -94,7 +95,7 @@ fn format_breach(first: Option<Token>, placed: bool) -> Option<Refusal>
     }
 }
 
-fn given_fill(tokens: &[Token]) -> Literal
+pub(crate) fn given_fill(tokens: &[Token]) -> Literal
     ensures value { result ≡ spec.given_fill tokens.now }
 {
     match tokens {
