@@ -12,3 +12,5 @@ pub mod Finds
 pub mod Parts
 pub mod HeaderParts
 pub mod FormParts
+pub mod Words
+pub mod Elaborations

@@ -1,11 +1,10 @@
 -- A text has at most one breach of the grammar and its limits, and a whole text has none.
-use Rattle.std.proofs.Common.{◌≡◌, ℕ, ◌+◌, ◌≤◌, Bool, true, false, List, [], ◌∷◌, ◌++◌, Option, length, length-append, refl, sym, ap, ◌∙◌, subst, append_assoc, ◌⊎◌, inl, inr, arith}
+use Rattle.std.proofs.Common.{◌≡◌, ℕ, ◌+◌, ◌≤◌, Bool, true, false, List, [], ◌∷◌, ◌++◌, length, length-append, refl, sym, ap, ◌∙◌, subst, append_assoc, inl, inr, arith}
 use Rattle.fin_base.specs.declared.refusal.Rule.{Rule}
 use Rattle.fin_base.specs.declared.refusal.Rule.TheVariants.{S2, S3}
 use Rattle.fin_lex.specs.declared.token.Token.{Token}
 use Rattle.fin_parse.specs.declared.class.Class.{Class}
 use Rattle.fin_parse.specs.declared.class.Class.TheVariants as class
-use Rattle.fin_parse.specs.declared.grammar.Form.{Form}
 use Rattle.fin_parse.specs.declared.grammar.Form.TheVariants as form
 use Rattle.fin_parse.specs.declared.grammar.Phrase.{Phrase}
 use Rattle.fin_parse.specs.declared.grammar.Phrase.TheVariants as phrase
@@ -15,14 +14,12 @@ use Rattle.fin_parse.specs.declared.tree.Tree.{Tree}
 use Rattle.fin_parse.specs.declared.tree.Tree.TheVariants.{Leaf, Node}
 use Rattle.fin_parse.specs.declared.tree.Room.{Room}
 use Rattle.fin_parse.specs.declared.trees.Text.{Text}
-use Rattle.fin_parse.specs.Grammar.{phrase_of, row_of}
 use Rattle.fin_parse.specs.Choices.{begins}
-use Rattle.fin_parse.specs.Classes.{class_at}
-use Rattle.fin_parse.specs.Syntax.{Sign, real, beyond, signs, look, lower, entered, IsTree, word, one, many, absent, present, deeper, too_deep, in_loop, too_many_loops, IsRow, done, part, IsGroup, none, more}
+use Rattle.fin_parse.specs.Syntax.{Sign, real, beyond, signs, look, IsTree, word, one, many, absent, present, deeper, too_deep, in_loop, too_many_loops, IsRow, done, part, IsGroup, none, more}
 use Rattle.fin_parse.specs.Reading.{AtLeast, IsReal}
 use Rattle.fin_parse.specs.Text.{AreHeaders, Texts, IsWhole, IsUnexpected, IsTooDeep, IsCrowded}
 use Rattle.fin_parse.specs.Breaches.{limits, next_line, last_line, IsUnexpectedAt, IsTooMuchAt, SyntaxBroken}
-use Rattle.fin_parse.proofs.Table.{impossible, kind_of, kind_there}
+use Rattle.fin_parse.proofs.Table.{impossible, kind_of}
 use Rattle.fin_parse.proofs.Steps.{nil-append, same_room, signs-append}
 use Rattle.fin_parse.proofs.Examples.{ex_row}
 

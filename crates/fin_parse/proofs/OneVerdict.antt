@@ -1,12 +1,11 @@
 -- A program's text has one verdict.
-use Rattle.std.proofs.Common.{◌≡◌, ◌∙◌, ℕ, List, [], Some, None, refl, sym, ap, ap₂, subst, ◌⊎◌, inl, inr}
-use Rattle.std.specs.Prelude.{Result, Ok, Err}
-use Rattle.std.specs.declared.option.Option.{Option}
+use Rattle.std.proofs.Common.{◌≡◌, ◌∙◌, ℕ, List, [], Some, None, sym, ap, ap₂, inl, inr}
+use Rattle.std.specs.Prelude.{Err}
 use Rattle.fin_base.specs.declared.refusal.Refusal.{Refusal}
 use Rattle.fin_base.specs.declared.refusal.Fail.TheVariants.{Refused}
 use Rattle.fin_lex.specs.declared.token.Token.{Token}
 use Rattle.fin_parse.specs.declared.trees.Text.{Text}
-use Rattle.fin_parse.specs.Breaches.{limits, SyntaxBroken}
+use Rattle.fin_parse.specs.Breaches.{limits}
 use Rattle.fin_parse.specs.Names.{first_of}
 use Rattle.fin_parse.specs.Text.{IsWhole}
 use Rattle.fin_parse.specs.TextForms.{form_breaches}

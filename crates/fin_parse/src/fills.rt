@@ -168,7 +168,8 @@ fn negated(magnitude: u64) -> Literal
     }
 }
 
-fn number_of(kind: TokenKind) -> u64
+/// The value of a number, 0 for another token.
+pub(crate) fn number_of(kind: TokenKind) -> u64
     ensures value { result ≡ spec.number_of kind }
 {
     match kind {
