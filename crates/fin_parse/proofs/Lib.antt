@@ -26,3 +26,5 @@ pub mod HeaderRows
 pub mod WordPlacement
 pub mod HeadSound
 pub mod HeadLinks
+pub mod Words
+pub mod Elaborations

@@ -1,5 +1,5 @@
 -- What the trees of the grammar stand for: indices, expressions and statements, in which tensors and variables are numbers.
-use Rattle.std.specs.Prelude.{ℕ, zero, suc, ◌+◌, ℤ, pos, Bool, true, false, if◌then◌else◌, nat_lt, List, [], ◌∷◌, ◌++◌, map, Option, Some, None, is_some, slice_get, unwrap_or, neg_ℤ}
+use Rattle.std.specs.Prelude.{ℕ, ◌+◌, ℤ, pos, Bool, true, false, if◌then◌else◌, List, [], ◌∷◌, ◌++◌, map, Option, Some, None, slice_get, unwrap_or, neg_ℤ}
 use Rattle.std.specs.List.{find, flat_map}
 use Rattle.fin_base.specs.declared.terms.Op.{Op}
 use Rattle.fin_base.specs.declared.terms.Op.TheVariants.{Add, Sub, Mul}
@@ -31,6 +31,9 @@ use Rattle.fin_parse.specs.Terms.{op_of, proto_of, reduce_of, is_par, is_freeze}
 pub record Naming : Type 0 where
   pub tensors : List Tensor
   pub bound : List Variable
+
+abbrev pub naming_of : List Tensor → List Variable → Naming
+naming_of tensors bound = record { tensors = tensors; bound = bound }
 
 abbrev pub with_variable : Naming → Option Token → ℕ → Naming
 with_variable s None n = s
@@ -316,4 +319,4 @@ module _ (text : List ℕ) where
 
   -- the statements of a whole text, whose headers name the tensors
   abbrev pub statements_of : List Tensor → List Tree → List Stmt
-  statements_of tensors body = stmts_in (map elaboration_of body) (record { tensors = tensors; bound = [] }) 0
+  statements_of tensors body = stmts_in (map elaboration_of body) (naming_of tensors []) 0

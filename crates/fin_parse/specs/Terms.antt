@@ -1,5 +1,5 @@
 -- What the symbols and reserved words of terms stand for.
-use Rattle.std.specs.Prelude.{ℕ, ◌-◌, Bool, true, false, ◌==◌, nat_lt, if◌then◌else◌, Option, Some, None, slice_index_or}
+use Rattle.std.specs.Prelude.{ℕ, ◌-◌, Bool, false, ◌==◌, nat_lt, if◌then◌else◌, Option, Some, None, slice_index_or}
 use Rattle.fin_base.specs.declared.terms.Op.{Op}
 use Rattle.fin_base.specs.declared.terms.Op.TheVariants.{Ne, Xor}
 use Rattle.fin_base.specs.declared.terms.Proto.{Proto}

@@ -168,6 +168,7 @@ fn negated(magnitude: u64) -> Literal
     }
 }
 
+/// The value of a number, 0 for another token.
 pub(crate) fn number_of(kind: TokenKind) -> u64
     ensures value { result ≡ spec.number_of kind }
 {
