@@ -28,3 +28,5 @@ pub mod HeadSound
 pub mod HeadLinks
 pub mod Words
 pub mod Elaborations
+pub mod Programs
+pub mod OneProgram

@@ -66,13 +66,14 @@ one_place zero (c ∷ cs) (suc k) h is = absurd (no_place cs k h is)
 one_place (suc n) (c ∷ cs) zero h is = absurd (is_no_sign c (both (not (same_class c class.Declares)) (only_sign n cs) h).0 is)
 one_place (suc n) (c ∷ cs) (suc k) h is = ap suc (one_place n cs k (both (not (same_class c class.Declares)) (only_sign n cs) h).1 is)
 
-number_no_sign : (b : Bool) → cond b class.Number class.Widest ≡ class.Declares → ⊥
-number_no_sign true h = cc
-number_no_sign false h = cc
+number_no_sign : (b c : Bool) → cond b class.Number (cond c class.Widest class.Unknown) ≡ class.Declares → ⊥
+number_no_sign true c h = cc
+number_no_sign false true h = cc
+number_no_sign false false h = cc
 
 declares_sign : (k : TokenKind) → class_of k ≡ class.Declares → is_declares k ≡ true
 declares_sign kind.Name h = cc
-declares_sign (kind.Number n) h = absurd (number_no_sign (nat_lt n (2 ^ 63)) h)
+declares_sign (kind.Number n) h = absurd (number_no_sign (nat_lt n (2 ^ 63)) (n == 2 ^ 63) h)
 declares_sign (kind.Reserved k) h = absurd (no_place RESERVED_CLASSES k refl h)
 declares_sign (kind.Symbol k) h = ap (λ (n : ℕ). n == 20) (one_place 20 SYMBOL_CLASSES k refl h)
 

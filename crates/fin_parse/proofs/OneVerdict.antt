@@ -15,7 +15,7 @@ use Rattle.fin_parse.proofs.OneBreach.{one_breach, whole_is_unbroken}
 use Rattle.fin_parse.proofs.Steps.{same_room}
 
 -- tokens stand for one text
-one_text : (tokens : List Token) (a b : Text) → IsWhole limits tokens a → IsWhole limits tokens b → a ≡ b
+pub one_text : (tokens : List Token) (a b : Text) → IsWhole limits tokens a → IsWhole limits tokens b → a ≡ b
 one_text tokens a b h k = k.one limits a (same_room limits) h.stands
 
 first_is_one : (breaches others : List Refusal) (r s : Refusal) → breaches ≡ others → Some r ≡ first_of breaches → Some s ≡ first_of others → r ≡ s

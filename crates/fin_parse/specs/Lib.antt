@@ -17,3 +17,4 @@ pub mod Verdict
 pub mod Terms
 pub mod Elaboration
 pub mod HeaderTrees
+pub mod Program

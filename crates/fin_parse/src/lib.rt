@@ -24,6 +24,7 @@ mod indices;
 mod names;
 mod naming;
 mod numbers;
+mod program;
 mod reader;
 mod reserved;
 mod roles;
@@ -41,6 +42,7 @@ mod trees;
 mod verdict;
 
 pub use grammar::Form;
+pub use program::parse;
 pub use tree::Tree;
 pub use trees::Text;
 pub use verdict::read_trees;
