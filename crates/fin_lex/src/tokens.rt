@@ -1,5 +1,5 @@
 //! The tokens of a whole text.
-ghost use Rattle.std.specs.Prelude.{◌≡◌, ◌≤◌, ◌^◌, ◌++◌, ◌∷◌, [], length, OnOk};
+ghost use Rattle.std.specs.Prelude.{◌≡◌, ◌≤◌, ◌^◌, ◌++◌, ◌∷◌, [], length, IfOk, OnOk};
 ghost use Rattle.fin_lex.specs.Tokens.{Outcome};
 
 use crate::piece::{Piece, cut, newlines};
@@ -7,7 +7,8 @@ use crate::token::Token;
 use fin_base::{Fail, Refusal, Rule};
 use std::alloc::{AllocError, Global};
 
-/// The tokens of a text whose first line has the number `first_line`, in order. Blanks and comments stand between them.
+/// The tokens of a text whose first line has the number `first_line`, in order, no more than it has bytes. Blanks and
+/// comments stand between them.
 ///
 /// # Errors
 /// `S1` at the line of the first bytes outside comments that begin no token, or of the first word or number that
@@ -16,6 +17,7 @@ pub fn lex(alloc: Global, text: &[u8], first_line: u32) -> Result<Vec<Token>, Fa
     requires length { length text.now ≤ 16777216 }
     requires line { first_line ≤ 2 ^ 31 }
     ensures tokens { Outcome text.now first_line result }
+    ensures few { IfOk result (λ ts. length ts.items ≤ length text.now) }
 {
     let mut tokens: Vec<Token> = Vec::new(alloc);
     let mut at: usize = 0;
