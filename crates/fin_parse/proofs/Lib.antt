@@ -16,3 +16,4 @@ pub mod HeaderRows
 pub mod WordPlacement
 pub mod HeadSound
 pub mod HeadLinks
+pub mod PlacedExactly
