@@ -1,12 +1,12 @@
 -- The words of a format are misplaced exactly if their decorations are, or the levels and the decoration that they name.
-use Rattle.std.proofs.Common.{◌≡◌, ◌≢◌, ℕ, zero, suc, ◌+◌, ◌<◌, ◌≤◌, ◌↔◌, Bool, true, false, cond, not, ◌&&◌, ◌||◌, ◌==◌, nat_le, nat_lt, ◌^◌, List, [], ◌∷◌, length, Option, Some, None, IsTrue, slice_index_or, refl, sym, ap, ◌∙◌, subst, arith, eqb-true, add-zero, zero-add}
+use Rattle.std.proofs.Common.{◌≡◌, ℕ, zero, suc, ◌+◌, ◌<◌, ◌↔◌, Bool, true, false, cond, not, ◌&&◌, ◌||◌, ◌==◌, nat_le, nat_lt, ◌^◌, List, [], ◌∷◌, length, Option, Some, None, IsTrue, slice_index_or, refl, sym, ap, ◌∙◌, subst, arith, eqb-true, add-zero, zero-add}
 use Rattle.std.specs.List.{cons_option, count_by, list_all, list_any}
 use Rattle.std.proofs.lemmas.Bool.{le-leb}
 use Rattle.fin_lex.specs.declared.token.Token.{Token}
 use Rattle.fin_lex.specs.declared.token.TokenKind.{TokenKind}
 use Rattle.fin_lex.specs.declared.token.TokenKind.TheVariants as kind
 use Rattle.fin_tensor.specs.declared.format.Level.{Level}
-use Rattle.fin_tensor.specs.declared.format.Level.TheVariants.{Dense, List as SortedList, Runs, Band, Dict}
+use Rattle.fin_tensor.specs.declared.format.Level.TheVariants.{Runs}
 use Rattle.fin_tensor.specs.declared.format.Wrap.TheVariants.{Bare, Atomic, Mutex, Shard}
 use Rattle.fin_tensor.specs.Placement as levels
 use Rattle.fin_ast.specs.declared.header.Kind.TheVariants.{Input, Output, Local}
@@ -21,7 +21,7 @@ use Rattle.fin_parse.specs.HeaderNames.{is_level, levels_of}
 use Rattle.fin_parse.specs.FormatWords as words
 use Rattle.fin_parse.specs.HeaderTrees.{kind_of, level_of, levels_in, levels_before, wrap_of}
 use Rattle.fin_parse.proofs.Table.{impossible, both, implied, same_self}
-use Rattle.fin_parse.proofs.Leads.{and_both, or_false, or_left, or_right}
+use Rattle.fin_parse.proofs.Leads.{and_both, or_false, or_left}
 use Rattle.fin_parse.proofs.HeaderRows.{IsFormat, ends, goes}
 use Rattle.fin_parse.proofs.WordPlacement.{chosen_level, NoneOr, one_if, found, word_counts, length-levels, Passes, passes, placed_as}
 
