@@ -9,7 +9,6 @@ use Rattle.fin_tensor.specs.declared.format.Level.{Level}
 use Rattle.fin_tensor.specs.declared.format.Level.TheVariants.{Runs}
 use Rattle.fin_tensor.specs.declared.format.Wrap.TheVariants.{Bare, Atomic, Mutex, Shard}
 use Rattle.fin_tensor.specs.Placement as levels
-use Rattle.fin_ast.specs.declared.header.Kind.TheVariants.{Input, Output, Local}
 use Rattle.fin_ast.specs.Kinds.{is_input}
 use Rattle.fin_parse.specs.declared.class.Class.{Class}
 use Rattle.fin_parse.specs.declared.class.Class.TheVariants as class
@@ -23,7 +22,7 @@ use Rattle.fin_parse.specs.HeaderTrees.{kind_of, level_of, levels_in, levels_bef
 use Rattle.fin_parse.proofs.Table.{impossible, both, implied, same_self}
 use Rattle.fin_parse.proofs.Leads.{and_both, or_false, or_left}
 use Rattle.fin_parse.proofs.HeaderRows.{IsFormat, ends, goes}
-use Rattle.fin_parse.proofs.WordPlacement.{chosen_level, NoneOr, one_if, found, word_counts, length-levels, Passes, passes, placed_as}
+use Rattle.fin_parse.proofs.WordPlacement.{chosen_level, NoneOr, one_if, found, word_counts, length-levels, is_input-kind_of, Passes, passes, placed_as}
 
 -- one decoration at most, atomic directly before the elements, shard first
 abbrev pub are_decorations_placed : List Token → Bool
@@ -238,10 +237,6 @@ module _ (ts : List Token) (f : IsFormat ts) (runs : levels.RunsStandLast (level
   bare_words false false true p q r bare = absurd bare
   bare_words false false false p q r bare = undecorated ts p q r
 
-first_input : (a b : Bool) → a ≡ true → IsTrue (is_input (cond a Input (cond b Output Local)))
-first_input true b h = refl
-first_input false b h = impossible h
-
 placed_back : (first ts : List Token) → IsFormat ts → IsTrue (are_decorations_placed ts) → levels.IsPlacedAs (is_input (kind_of first)) (levels_in ts) (wrap_of ts) → words.is_placed (words.begins_with IN first) ts ≡ true
 placed_back first ts f decorations placed =
     let input = words.begins_with IN first in
@@ -261,7 +256,7 @@ placed_back first ts f decorations placed =
     let fit = placed.0.fits in
     let least : few ≡ true = le-leb (levels_of ts) 8 (let e : length (levels_in ts) ≡ levels_of ts = length-levels ts in let l = placed.0.few in omega arith) in
     let h1 = and_both few one least d0.0 in
-    let h2 = and_both (few && one) plain h1 (uncrossed input (list_any words.is_decoration ts) (λ e. bare_words ts f placed.0.runs a m s refl refl refl (placed.1 (first_input input (words.begins_with OUT first) e)))) in
+    let h2 = and_both (few && one) plain h1 (uncrossed input (list_any words.is_decoration ts) (λ e. bare_words ts f placed.0.runs a m s refl refl refl (placed.1 (is_input-kind_of first ∙ e)))) in
     let h3 = and_both (few && one && plain) runs h2 (from_fit ts f placed.0.runs a m s refl refl refl fit) in
     let h4 = and_both (few && one && plain && runs) atomic h3 d0.1 in
     let h5 = and_both (few && one && plain && runs && atomic) by_word h4 (fitting_word ts f placed.0.runs a m s fit) in

@@ -1,5 +1,5 @@
 -- The placement of words is that of the levels and the decoration that they name.
-use Rattle.std.proofs.Common.{◌≡◌, ◌≢◌, ℕ, zero, suc, ◌+◌, ◌<◌, ◌≤◌, Bool, true, false, cond, not, ◌&&◌, ◌||◌, ◌==◌, nat_le, List, [], ◌∷◌, take, length, Option, Some, None, IsTrue, slice_index_or, refl, sym, ap, ◌∙◌, subst, arith, eqb-true}
+use Rattle.std.proofs.Common.{◌≡◌, ◌≢◌, ℕ, zero, suc, ◌+◌, ◌<◌, ◌≤◌, Bool, true, false, cond, not, ◌&&◌, ◌||◌, ◌==◌, nat_le, List, [], ◌∷◌, take, length, Option, Some, None, slice_index_or, refl, sym, ap, ◌∙◌, subst, arith, eqb-true}
 use Rattle.std.specs.List.{cons_option, count_by, list_all, list_any, prefix_len}
 use Rattle.std.proofs.lemmas.Bool.{leb-true, eqb-false}
 use Rattle.std.proofs.lemmas.List.Sums.{sum_by-cons}
@@ -233,10 +233,14 @@ no_decoration (t ∷ ts) h =
 
 -- ---- the placement
 
-input_begins : (a b : Bool) → IsTrue (is_input (cond a Input (cond b Output Local))) → a ≡ true
-input_begins true b h = refl
-input_begins false true h = impossible h
-input_begins false false h = impossible h
+pub input_by_word : (a b : Bool) → is_input (cond a Input (cond b Output Local)) ≡ a
+input_by_word true b = refl
+input_by_word false true = refl
+input_by_word false false = refl
+
+-- an input is what begins with its word
+pub is_input-kind_of : (ts : List Token) → is_input (kind_of ts) ≡ words.begins_with IN ts
+is_input-kind_of ts = input_by_word (words.begins_with IN ts) (words.begins_with OUT ts)
 
 -- the conditions of the test
 pub record Passes (input : Bool) (ts : List Token) : Type 0 where
@@ -285,7 +289,7 @@ placed_as first ts f h =
           fits = fits ts a m s (implied a (list_all words.is_dense ts) p.by_word) (implied m (list_all words.is_dense ts) p.by_lock) of_parts;
         },
         λ is.
-            let none = no_decoration ts (undecorated input (list_any words.is_decoration ts) p.plain (input_begins input (words.begins_with OUT first) is)) in
+            let none = no_decoration ts (undecorated input (list_any words.is_decoration ts) p.plain (sym (is_input-kind_of first) ∙ is)) in
             bare ts a m s none.0 none.1 none.2,
       ),
     )
