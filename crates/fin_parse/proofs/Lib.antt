@@ -30,3 +30,4 @@ pub mod Words
 pub mod Elaborations
 pub mod Programs
 pub mod OneProgram
+pub mod PlacedExactly
