@@ -1,10 +1,8 @@
 -- A line of a tensor tells one thing.
 use Rattle.std.proofs.Common.{◌≡◌, ◌∙◌, ℕ, ◌<◌, List, ℤ, [], ◌∷◌, ◌++◌, length, codes, refl, sym, ap, ap₂, subst, arith}
-use Rattle.std.specs.Prelude.{All, slice_index_or}
+use Rattle.std.specs.Prelude.{slice_index_or}
 use Rattle.std.proofs.lemmas.List.{append_cancel_left, append_cancel_right}
-use Rattle.std.proofs.lemmas.List.Elements.{All-cons, All-nil}
 use Rattle.std.specs.Fmt.{decimal}
-use Rattle.fin_base.specs.Words.{IsWord}
 use Rattle.fin_tensor.specs.declared.draft.Draft.{Draft}
 use Rattle.fin_tensor.specs.declared.format.Format.{Format as TensorFormat}
 use Rattle.fin_tensor.specs.declared.format.Level.{Level}
@@ -16,7 +14,7 @@ use Rattle.fin_tensor.specs.declared.storage.Storage.{Storage}
 use Rattle.fin_tensor.specs.Placement.{IsBare}
 use Rattle.fin_tensor.proofs.Same.{same_storage}
 use Rattle.fin_text.specs.DueLines.{IsTold, IsAfter, IsNextName, IsNextFill, IsNextShape, IsNextSecond, IsNextEnd, IsTaken, TellsSizes, TellsPart, TellsValues, due_level, part_with, with_dense}
-use Rattle.fin_text.specs.Numbers.{words, IsSize, spaced_sizes}
+use Rattle.fin_text.specs.Numbers.{words, spaced_sizes}
 use Rattle.fin_text.specs.Tensors.{level_word}
 use Rattle.fin_text.specs.declared.due.AtLevel.{AtLevel}
 use Rattle.fin_text.specs.declared.due.AtValues.{AtValues}
@@ -108,8 +106,8 @@ not_all x y d e s h k =
     let f : length d.format.levels ≡ length e.format.levels = ap (λ g. length g.levels) s.format_is in
     omega arith
 
-back : (x y : List ℕ) (d e : Draft) → SameDraft x d y e → SameDraft y e x d
-back x y d e s = record { name_is = sym s.name_is; format_is = sym s.format_is; shape_is = sym s.shape_is; parts_are = sym s.parts_are }
+pub back_draft : (x y : List ℕ) (d e : Draft) → SameDraft x d y e → SameDraft y e x d
+back_draft x y d e s = record { name_is = sym s.name_is; format_is = sym s.format_is; shape_is = sym s.shape_is; parts_are = sym s.parts_are }
 
 next_after : (n m : List ℕ) (f g : TensorFormat) (ns ms : List ℕ) (ps qs : List Part) (d e : Due) → n ≡ m → f ≡ g → ns ≡ ms → ps ≡ qs → IsAfter n f ns ps d → IsAfter m g ms qs e → SameDue d e
 next_after n m f g ns ms ps qs (Ptr x) (Ptr y) a b c p h k = ptrs x y (same_told n m f g ns ms (with_dense f ps) (with_dense g qs) x.name y.name x.draft y.draft a b c (ap₂ with_dense b p) h k)
@@ -119,7 +117,7 @@ next_after n m f g ns ms ps qs (Ptr x) (Val y) a b c p h k =
     absurd (not_all x.name y.name x.draft y.draft s x.within y.all)
 next_after n m f g ns ms ps qs (Val x) (Ptr y) a b c p h k =
     let s = same_told n m f g ns ms (with_dense f ps) (with_dense g qs) x.name y.name x.draft y.draft a b c (ap₂ with_dense b p) h k in
-    absurd (not_all y.name x.name y.draft x.draft (back x.name y.name x.draft y.draft s) y.within x.all)
+    absurd (not_all y.name x.name y.draft x.draft (back_draft x.name y.name x.draft y.draft s) y.within x.all)
 next_after n m f g ns ms ps qs (Ptr x) _ a b c p h k = elim k [ ]
 next_after n m f g ns ms ps qs (Val x) _ a b c p h k = elim k [ ]
 next_after n m f g ns ms ps qs _ e a b c p h k = elim h [ ]

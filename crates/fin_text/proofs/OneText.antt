@@ -1,11 +1,9 @@
 -- A text of tensors is read or refused in one way.
-use Rattle.std.proofs.Common.{◌≡◌, ◌≢◌, ◌∙◌, ◌⊎◌, inl, inr, ℕ, ◌+◌, List, [], ◌∷◌, ◌++◌, refl, sym, ap, subst}
+use Rattle.std.proofs.Common.{◌≡◌, ◌≢◌, ◌∙◌, inl, ℕ, ◌+◌, List, ◌∷◌, ◌++◌, refl, sym, ap, subst}
 use Rattle.std.specs.Prelude.{All, Result, Ok, Err}
-use Rattle.fin_base.specs.declared.refusal.Fail.{Fail}
 use Rattle.fin_base.specs.declared.refusal.Fail.TheVariants.{Refused}
 use Rattle.fin_base.specs.declared.refusal.Refusal.{Refusal}
 use Rattle.fin_base.specs.declared.refusal.Rule.{Rule}
-use Rattle.fin_base.specs.declared.refusal.Rule.TheVariants.{X3}
 use Rattle.fin_text.specs.Reading.{BreaksLine, BreaksNext, BreaksText, ComesTo, IsFresh, IsRead, Reads, ReadsTensors, Skips}
 use Rattle.fin_text.specs.declared.read.Given.{Given}
 use Rattle.fin_text.specs.declared.read.Reader.{Reader}
@@ -21,7 +19,7 @@ Answer = Result Given_list Refusal
 
 -- what comes of so much of a text, line by line
 data Onward : Reader → List ℕ → ℕ → Answer → Type 0 where
-  ended : {r : Reader} {left : List ℕ} {line : ℕ} {v : Answer} → All (λ b. b ≢ 10) left → Skips r left → v ≡ Ok r.given → Onward r left line v
+  ended : {r : Reader} {left : List ℕ} {line : ℕ} {v : Answer} → All (λ b. b ≢ 10) left → Skips r left → v ≡ Ok r.given.entries → Onward r left line v
   broken : {r : Reader} {left : List ℕ} {line : ℕ} {v : Answer} (rule : Rule) → BreaksNext r left rule → v ≡ Err (record { rule = rule; line = line }) → Onward r left line v
   step : {r : Reader} {left : List ℕ} {line : ℕ} {v : Answer} (x : Reader) (bytes more : List ℕ) → left ≡ bytes ++ 10 ∷ more → All (λ b. b ≢ 10) bytes → ComesTo r line bytes x → Onward x more (line + 1) v → Onward r left line v
 
