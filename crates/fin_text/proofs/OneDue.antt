@@ -112,10 +112,10 @@ same_rule d e (SameDue.ends n m s t q r) = refl
 
 -- ---- a line that is taken breaks no rule
 
-small : (k n : ℕ) → k < n → n ≤ 8 → k < 2 ^ 64
+pub small : (k n : ℕ) → k < n → n ≤ 8 → k < 2 ^ 64
 small k n h l = omega arith
 
-tells_no_other : (k : ℕ) (after ns : List ℕ) → k < 2 ^ 64 → TellsPart k after ns → TellsOther k after → ⊥
+pub tells_no_other : (k : ℕ) (after ns : List ℕ) → k < 2 ^ 64 → TellsPart k after ns → TellsOther k after → ⊥
 tells_no_other k after ns fits h (w, rest, e, spaceless, ends, digits, leads, other) = no_part k after w rest fits (e, spaceless, ends) other ns h
 
 pub taken_no_other : (given : List (List ℕ)) (d : Due) (after : List ℕ) (x : Due) → IsTaken given d after x → TellsOtherLevel d after → ⊥

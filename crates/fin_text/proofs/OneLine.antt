@@ -45,20 +45,20 @@ pub data SameDue : Due → Due → Type 0 where
 
 -- ---- what a line tells
 
-one_format : (after : List ℕ) (ls ms : List Level) → after ≡ words level_word ls ++ codes " element" → after ≡ words level_word ms ++ codes " element" → ls ≡ ms
+pub one_format : (after : List ℕ) (ls ms : List Level) → after ≡ words level_word ls ++ codes " element" → after ≡ words level_word ms ++ codes " element" → ls ≡ ms
 one_format after ls ms h k =
     let same : words level_word ls ≡ words level_word ms = append_cancel_right (words level_word ls) (words level_word ms) (codes " element") (sym h ∙ k) in
     words_one_to_one level_word (λ l. Unit {0}) level_is_spelling ls ms (λ i d lt. tt) (λ i d lt. tt) same
 
-one_shape : (after ns ms : List ℕ) → TellsSizes after ns → TellsSizes after ms → ns ≡ ms
+pub one_shape : (after ns ms : List ℕ) → TellsSizes after ns → TellsSizes after ms → ns ≡ ms
 one_shape after ns ms h k = spaced_sizes_one_to_one ns ms h.1 k.1 (sym h.0 ∙ k.0)
 
-one_part : (k : ℕ) (after ns ms : List ℕ) → TellsPart k after ns → TellsPart k after ms → ns ≡ ms
+pub one_part : (k : ℕ) (after ns ms : List ℕ) → TellsPart k after ns → TellsPart k after ms → ns ≡ ms
 one_part k after ns ms h g =
     let same : spaced_sizes ns ≡ spaced_sizes ms = append_cancel_left (32 ∷ decimal k) (spaced_sizes ns) (spaced_sizes ms) (sym h.0 ∙ g.0) in
     spaced_sizes_one_to_one ns ms h.1 g.1 same
 
-one_values : (after : List ℕ) (vs ws : List ℤ) → TellsValues after vs → TellsValues after ws → vs ≡ ws
+pub one_values : (after : List ℕ) (vs ws : List ℤ) → TellsValues after vs → TellsValues after ws → vs ≡ ws
 one_values after vs ws h k = spaced_one_to_one vs ws h.1 k.1 (sym h.0 ∙ k.0)
 
 -- ---- what is due next
@@ -80,7 +80,7 @@ bare_is wrap.Atomic h = elim h [ ]
 bare_is (wrap.Mutex n) h = elim h [ ]
 bare_is wrap.Shard h = elim h [ ]
 
-same_format : (f g : TensorFormat) → IsBare f.wrap → IsBare g.wrap → f.levels ≡ g.levels → f.fill ≡ g.fill → f ≡ g
+pub same_format : (f g : TensorFormat) → IsBare f.wrap → IsBare g.wrap → f.levels ≡ g.levels → f.fill ≡ g.fill → f ≡ g
 same_format f g b c ls fill =
     let same : f.wrap ≡ g.wrap = bare_is f.wrap b ∙ sym (bare_is g.wrap c) in
     λ i. record { levels = ls i; wrap = same i; fill = fill i }
@@ -135,7 +135,7 @@ next_end n m d e vs ws (End x s) (End y t) same q h k =
 next_end n m d e vs ws (End x s) _ same q h k = elim k [ ]
 next_end n m d e vs ws _ y same q h k = elim h [ ]
 
-one_head : (after n m : List ℕ) → after ≡ 32 ∷ n → after ≡ 32 ∷ m → n ≡ m
+pub one_head : (after n m : List ℕ) → after ≡ 32 ∷ n → after ≡ 32 ∷ m → n ≡ m
 one_head after n m h k = let same : 32 ∷ n ≡ 32 ∷ m = sym h ∙ k in cc
 
 pub same_level : (x y : List ℕ) (d e : Draft) → SameDraft x d y e → due_level d ≡ due_level e

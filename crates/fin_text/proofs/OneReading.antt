@@ -54,7 +54,7 @@ rest_agrees d e r s line after x y (SameDue.ptrs a b p) g since (xg, xs, _, h) (
 rest_agrees d e r s line after x y (SameDue.seconds a b p q) g since (xg, xs, _, h) (yg, ys, _, k) = inside d e r s after x y (λ c. c) (SameDue.seconds a b p q) g since xg xs h yg ys k
 rest_agrees d e r s line after x y (SameDue.vals a b p) g since (xg, xs, _, h) (yg, ys, _, k) = inside d e r s after x y (λ c. c) (SameDue.vals a b p) g since xg xs h yg ys k
 
-one_word : (bytes w a v b : List ℕ) → IsFirstWord bytes w a → IsFirstWord bytes v b → (w ≡ v) × (a ≡ b)
+pub one_word : (bytes w a v b : List ℕ) → IsFirstWord bytes w a → IsFirstWord bytes v b → (w ≡ v) × (a ≡ b)
 one_word bytes w a v b h k = one_cut w a v b h.spaceless k.spaceless h.ends k.ends (sym h.whole ∙ k.whole)
 
 pub skips_too : (r s : Reader) (bytes : List ℕ) → Agree r s → Skips r bytes → Skips s bytes
@@ -88,7 +88,7 @@ after_facts (Ptr a) r line after x h = (taken_no_other [] (Ptr a) after x.due h.
 after_facts (Second b) r line after x h = (taken_no_other [] (Second b) after x.due h.3, h.2, taken_numbers [] (Second b) after x.due h.3, taken_valid [] (Second b) after x.due h.3)
 after_facts (Val a) r line after x h = (λ t. t, h.2, taken_numbers [] (Val a) after x.due h.3, taken_valid [] (Val a) after x.due h.3)
 
-unbroken : (given : List (List ℕ)) (d : Due) (after : List ℕ) (rule : Rule) → ¬ (TellsOtherLevel d after) → HasForm d after → HasNumbers d after → IsValid given d after → Breaks given d after rule → ⊥
+pub unbroken : (given : List (List ℕ)) (d : Due) (after : List ℕ) (rule : Rule) → ¬ (TellsOtherLevel d after) → HasForm d after → HasNumbers d after → IsValid given d after → Breaks given d after rule → ⊥
 unbroken given d after rule a b c v (Breaks.other_level h) = a h
 unbroken given d after rule a b c v (Breaks.misformed n h) = h b
 unbroken given d after rule a b c v (Breaks.misspelled n f h) = h c
@@ -122,7 +122,7 @@ breaks_too given d e after rule q (Breaks.invalid n a b h) =
     (Breaks.invalid (λ t. n (same_other e d after (back d e q) t)) (same_form d e after q a) (same_numbers d e after q b) (λ t. h (same_valid given e d after (back d e q) t)))
 
 -- the words that may be due are known
-is_known : (d : Due) → Contains known_words (due_word d)
+pub is_known : (d : Due) → Contains known_words (due_word d)
 is_known Tensor = (0, omega arith, refl)
 is_known (Format n) = (1, omega arith, refl)
 is_known (Fill f) = (2, omega arith, refl)
