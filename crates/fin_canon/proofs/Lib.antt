@@ -9,6 +9,7 @@ pub mod Inside
 pub mod Kept
 pub mod Making
 pub mod Naming
+pub mod Nothing
 pub mod Placed
 pub mod Positions
 pub mod Reading

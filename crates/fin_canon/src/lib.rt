@@ -2,7 +2,8 @@
 //!
 //! `store` gives the canonical storage of the function that entries name, or says that it is too large. It goes over the
 //! entries level by level: each kept prefix is a range of them. Entries that have the fill are passed over. Its work is
-//! proportional to the entries and to the prefixes that the levels keep, and the sizes are counted before memory is taken.
+//! proportional to the entries and to the numbers that are stored: no prefix is gone over where dense levels alone stand
+//! before an extent of 0. The sizes are counted before memory is taken.
 //!
 //! The canonical storage of a tensor function stands for it, is valid where its size allows, and is the only storage of
 //! its form. That of the function of a storage is valid in the storage's format.

@@ -1,16 +1,17 @@
 //! The lists of a canonical storage.
 
-ghost use Rattle.std.specs.Prelude.{◌≡◌, ◌<◌, ◌≤◌, [], ◌∷◌, length, IfOk, map};
+ghost use Rattle.std.specs.Prelude.{◌≡◌, ◌<◌, ◌≤◌, [], ◌∷◌, drop, length, IfOk, map, if◌then◌else◌};
 ghost use Rattle.std.specs.List.{All};
 ghost use Rattle.fin_tensor.specs.Placement.{IsPlaced};
 ghost use Rattle.fin_tensor.specs.TensorFunction.{value_at};
 ghost use Rattle.fin_tensor.specs.Canon.{canon_parts, canon_values};
 ghost use Rattle.fin_canon.specs.Entries.{AreEntries, named};
+ghost use Rattle.fin_canon.specs.Nothing.{leads_to_nothing};
 ghost use Rattle.fin_canon.specs.Ranges.{value_of};
 
 use crate::entry::{Entry, Range};
 use crate::levels::{Made, make_level};
-use fin_tensor::{Format, Part, Seq, Vals};
+use fin_tensor::{Format, Level, Part, Seq, Vals};
 use std::alloc::{AllocError, Global};
 
 /// The parts of all levels, and the values.
@@ -41,6 +42,7 @@ pub fn canonical_lists(
         to: entries.len() as u64,
     })?;
     for k in 0..levels.len() {
+        let kept = needed(alloc, levels, shape, k, slices);
         let made = make_level(
             alloc,
             format,
@@ -48,7 +50,7 @@ pub fn canonical_lists(
             levels[k],
             k as u8,
             shape[k],
-            slices.as_slice(),
+            kept.as_slice(),
         )?;
         let Made { part, next } = made;
         parts.push(part)?;
@@ -56,6 +58,43 @@ pub fn canonical_lists(
     }
     let val = values(alloc, format, entries, slices.as_slice())?;
     Ok(Lists { parts, val })
+}
+
+// The slices at level k that anything is stored for: none where dense levels alone stand before an extent of 0.
+// Without this, the levels before it would be gone through for nothing.
+fn needed(
+    alloc: Global,
+    levels: &[Level],
+    shape: &[u64],
+    k: usize,
+    slices: Seq<Range>,
+) -> Seq<Range>
+    requires long { length shape.now ≡ length levels.now }
+    requires within { k ≤ length levels.now }
+    ensures { result ≡ (if leads_to_nothing (drop k levels.now) (drop k shape.now) then [] else slices) }
+{
+    if leads_to_nothing(levels, shape, k) {
+        Seq::new(alloc)
+    } else {
+        slices
+    }
+}
+
+// From level k on, dense levels alone stand before an extent of 0.
+fn leads_to_nothing(levels: &[Level], shape: &[u64], k: usize) -> bool
+    requires long { length shape.now ≡ length levels.now }
+    requires within { k ≤ length levels.now }
+    ensures { result ≡ leads_to_nothing (drop k levels.now) (drop k shape.now) }
+{
+    for j in k..levels.len() {
+        if levels[j] != Level::Dense {
+            return false;
+        }
+        if shape[j] == 0 {
+            return true;
+        }
+    }
+    false
 }
 
 // The values of the slices without coordinates.

@@ -147,6 +147,11 @@ fn stored_lists(rt: HostRuntime) -> Result<(), Fail> {
         &[(&[], &[]), (&[0, 1, 1, 2], &[1, 0])],
         &[5, 9],
     );
+
+    // Nothing is stored, and nothing is gone over.
+    let levels = [Level::Dense, Level::Dense, Level::List];
+    let storage = stored(&rt, alloc, &levels, &[1 << 40, 0, 1], &[], &[])??;
+    assert_is(&rt, &storage, &[(&[], &[]), (&[], &[]), (&[0], &[])], &[]);
     Ok(())
 }
 

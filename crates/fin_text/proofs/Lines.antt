@@ -1,10 +1,6 @@
 -- Lines of a text of tensors, one after another.
-use Rattle.std.proofs.Common.{◌≡◌, ◌≢◌, ℕ, ◌+◌, ◌≤◌, List, [], ◌∷◌, ◌++◌, length, map, drop, true, false, Result, Ok, Err, length-append, refl, sym, ap, ◌∙◌, subst, arith}
+use Rattle.std.proofs.Common.{◌≡◌, ◌≢◌, ℕ, ◌+◌, ◌≤◌, List, [], ◌∷◌, ◌++◌, length, drop, Result, Ok, Err, length-append, refl, sym, ap, ◌∙◌, subst, arith}
 use Rattle.std.specs.Prelude.{All, Contains}
-use Rattle.std.specs.Bool.{Decides}
-use Rattle.std.specs.List.{list_any}
-use Rattle.std.specs.Str.{bytes_eq}
-use Rattle.std.proofs.lemmas.Slice.Eq.{bytes_eq-Decides}
 use Rattle.fin_base.specs.declared.refusal.Fail.{Fail}
 use Rattle.fin_base.specs.declared.refusal.Rule.{Rule}
 use Rattle.fin_base.specs.declared.refusal.Rule.TheVariants.{X3}
@@ -17,21 +13,12 @@ use Rattle.fin_text.specs.declared.due.Due.{Due}
 use Rattle.fin_text.specs.declared.due.Due.TheVariants.{Tensor, Format, Fill, Shape, Ptr, Second, Val, End}
 use Rattle.fin_text.specs.declared.due.LineFail.{LineFail}
 use Rattle.fin_text.specs.declared.due.LineFail.TheVariants.{Broken, Memory}
-use Rattle.fin_text.specs.declared.read.Given.{Given}
 use Rattle.fin_text.specs.declared.read.Reader.{Reader}
-use Rattle.fin_text.proofs.Listed.{either}
 
--- a name is among those given where it is found there
-pub given_found : (gs : List (List ℕ × Given)) (x : List ℕ) → Decides (list_any (λ g. bytes_eq g.0 x) gs) (Contains (map (λ g. g.0) gs) x)
-given_found [] x = (λ e. cc e, λ h. absurd (omega (arith, h.1)))
-given_found (g ∷ gs) x = either (bytes_eq g.0 x) g.0 x (map (λ g. g.0) gs) _ (bytes_eq-Decides g.0 x) (given_found gs x)
-
-pub given_before : (gs : List (List ℕ × Given)) (after word : List ℕ) → after ≡ 32 ∷ word → IsName word → true ≡ list_any (λ g. bytes_eq g.0 word) gs → Breaks (map (λ g. g.0) gs) Tensor after (invalid_rule Tensor)
-given_before gs after word e is found =
-    invalid (λ h. h) (word, e, is) tt (λ h. h.2 (subst (λ w. Contains (map (λ g. g.0) gs) w) (ap (drop 1) (sym e ∙ h.1)) ((given_found gs word).0 (sym found))))
-
-pub new_name : (gs : List (List ℕ × Given)) (word : List ℕ) → false ≡ list_any (λ g. bytes_eq g.0 word) gs → ¬ (Contains (map (λ g. g.0) gs) word)
-new_name gs word none h = cc (none, (given_found gs word).1 h)
+-- a name that was given before breaks a rule
+pub given_before : (names : List (List ℕ)) (after word name : List ℕ) → after ≡ 32 ∷ word → IsName word → name ≡ word → Contains names name → Breaks names Tensor after (invalid_rule Tensor)
+given_before names after word name e is same there =
+    invalid (λ h. h) (word, e, is) tt (λ h. h.2 (subst (Contains names) (same ∙ ap (drop 1) (sym e ∙ h.1)) there))
 
 -- inside a tensor the names before it don't matter
 breaks_any : (given : List (List ℕ)) (due : Due) (after : List ℕ) (rule : Rule) → HasNext due → Breaks [] due after rule → Breaks given due after rule

@@ -1,32 +1,17 @@
 -- A line of a tensor that is taken breaks no rule, and one that isn't taken breaks one.
-use Rattle.std.proofs.Common.{◌≡◌, ◌≢◌, ◌∙◌, ◌⊎◌, inl, inr, ℕ, ◌+◌, ◌<◌, ◌≤◌, ◌^◌, List, ℤ, [], ◌∷◌, ◌++◌, length, map, false, refl, sym, ap, ap₂, subst, arith}
-use Rattle.std.specs.Prelude.{All, Contains, Result, Ok, Err, slice_index}
-use Rattle.std.proofs.lemmas.List.Elements.{All-head, All-tail}
-use Rattle.fin_base.specs.declared.refusal.Fail.TheVariants.{Refused}
-use Rattle.fin_base.specs.declared.refusal.Refusal.{Refusal}
-use Rattle.fin_base.specs.declared.refusal.Rule.{Rule}
-use Rattle.fin_base.specs.declared.refusal.Rule.TheVariants.{X1, X2, X3, X4, X5}
+use Rattle.std.proofs.Common.{◌≡◌, ℕ, ◌<◌, ◌≤◌, ◌^◌, List, length, refl, sym, ap, ap₂, subst, arith}
+use Rattle.std.specs.Prelude.{slice_index}
 use Rattle.fin_tensor.specs.Lines.{due, IsShape, IsVal}
 use Rattle.fin_tensor.specs.Levels.{IsPtr}
-use Rattle.fin_tensor.specs.Placement.{is_dense}
 use Rattle.fin_tensor.specs.declared.draft.Draft.{Draft}
-use Rattle.fin_tensor.specs.declared.format.Level.{Level}
-use Rattle.fin_tensor.specs.declared.format.Level.TheVariants as level
-use Rattle.fin_text.specs.DueLines.{Breaks, HasForm, HasNumbers, IsSecond, IsTaken, IsValid, TellsOther, TellsOtherLevel, TellsPart, due_level, due_word, invalid_rule, known_words, second_word}
-use Rattle.fin_text.specs.Numbers.{IsFirstWord}
-use Rattle.fin_text.specs.Reading.{BreaksLine, BreaksNext, BreaksText, ComesTo, IsAfterLine, IsAfterRest, IsBetween, IsFresh, IsRead, Reads, ReadsTensors, Skips, names_of}
+use Rattle.fin_text.specs.DueLines.{HasForm, HasNumbers, IsSecond, IsTaken, IsValid, TellsOther, TellsOtherLevel, TellsPart, due_level, due_word, invalid_rule, second_word}
+use Rattle.fin_text.specs.Reading.{IsBetween}
 use Rattle.fin_text.specs.declared.due.Due.{Due}
 use Rattle.fin_text.specs.declared.due.Due.TheVariants.{Tensor, Format, Fill, Shape, Ptr, Second, Val, End}
-use Rattle.fin_text.specs.declared.read.Given.{Given}
-use Rattle.fin_text.specs.declared.read.Reader.{Reader}
-use Rattle.fin_text.proofs.OneLine.{SameDraft, SameDue, same_level, same_taken}
-use Rattle.fin_text.proofs.Reading.{one_cut}
+use Rattle.fin_text.proofs.OneLine.{SameDraft, SameDue, back_draft, same_level}
 use Rattle.fin_text.proofs.Seconds.{no_part}
 
 -- ---- what is the same where the same line is due
-
-back_draft : (x y : List ℕ) (d e : Draft) → SameDraft x d y e → SameDraft y e x d
-back_draft x y d e s = record { name_is = sym s.name_is; format_is = sym s.format_is; shape_is = sym s.shape_is; parts_are = sym s.parts_are }
 
 pub back : (d e : Due) → SameDue d e → SameDue e d
 back d e SameDue.tensors = SameDue.tensors
@@ -127,10 +112,10 @@ same_rule d e (SameDue.ends n m s t q r) = refl
 
 -- ---- a line that is taken breaks no rule
 
-small : (k n : ℕ) → k < n → n ≤ 8 → k < 2 ^ 64
+pub small : (k n : ℕ) → k < n → n ≤ 8 → k < 2 ^ 64
 small k n h l = omega arith
 
-tells_no_other : (k : ℕ) (after ns : List ℕ) → k < 2 ^ 64 → TellsPart k after ns → TellsOther k after → ⊥
+pub tells_no_other : (k : ℕ) (after ns : List ℕ) → k < 2 ^ 64 → TellsPart k after ns → TellsOther k after → ⊥
 tells_no_other k after ns fits h (w, rest, e, spaceless, ends, digits, leads, other) = no_part k after w rest fits (e, spaceless, ends) other ns h
 
 pub taken_no_other : (given : List (List ℕ)) (d : Due) (after : List ℕ) (x : Due) → IsTaken given d after x → TellsOtherLevel d after → ⊥

@@ -1,10 +1,8 @@
 -- A line of a tensor tells one thing.
 use Rattle.std.proofs.Common.{◌≡◌, ◌∙◌, ℕ, ◌<◌, List, ℤ, [], ◌∷◌, ◌++◌, length, codes, refl, sym, ap, ap₂, subst, arith}
-use Rattle.std.specs.Prelude.{All, slice_index_or}
+use Rattle.std.specs.Prelude.{slice_index_or}
 use Rattle.std.proofs.lemmas.List.{append_cancel_left, append_cancel_right}
-use Rattle.std.proofs.lemmas.List.Elements.{All-cons, All-nil}
 use Rattle.std.specs.Fmt.{decimal}
-use Rattle.fin_base.specs.Words.{IsWord}
 use Rattle.fin_tensor.specs.declared.draft.Draft.{Draft}
 use Rattle.fin_tensor.specs.declared.format.Format.{Format as TensorFormat}
 use Rattle.fin_tensor.specs.declared.format.Level.{Level}
@@ -16,7 +14,7 @@ use Rattle.fin_tensor.specs.declared.storage.Storage.{Storage}
 use Rattle.fin_tensor.specs.Placement.{IsBare}
 use Rattle.fin_tensor.proofs.Same.{same_storage}
 use Rattle.fin_text.specs.DueLines.{IsTold, IsAfter, IsNextName, IsNextFill, IsNextShape, IsNextSecond, IsNextEnd, IsTaken, TellsSizes, TellsPart, TellsValues, due_level, part_with, with_dense}
-use Rattle.fin_text.specs.Numbers.{words, IsSize, spaced_sizes}
+use Rattle.fin_text.specs.Numbers.{words, spaced_sizes}
 use Rattle.fin_text.specs.Tensors.{level_word}
 use Rattle.fin_text.specs.declared.due.AtLevel.{AtLevel}
 use Rattle.fin_text.specs.declared.due.AtValues.{AtValues}
@@ -47,20 +45,20 @@ pub data SameDue : Due → Due → Type 0 where
 
 -- ---- what a line tells
 
-one_format : (after : List ℕ) (ls ms : List Level) → after ≡ words level_word ls ++ codes " element" → after ≡ words level_word ms ++ codes " element" → ls ≡ ms
+pub one_format : (after : List ℕ) (ls ms : List Level) → after ≡ words level_word ls ++ codes " element" → after ≡ words level_word ms ++ codes " element" → ls ≡ ms
 one_format after ls ms h k =
     let same : words level_word ls ≡ words level_word ms = append_cancel_right (words level_word ls) (words level_word ms) (codes " element") (sym h ∙ k) in
     words_one_to_one level_word (λ l. Unit {0}) level_is_spelling ls ms (λ i d lt. tt) (λ i d lt. tt) same
 
-one_shape : (after ns ms : List ℕ) → TellsSizes after ns → TellsSizes after ms → ns ≡ ms
+pub one_shape : (after ns ms : List ℕ) → TellsSizes after ns → TellsSizes after ms → ns ≡ ms
 one_shape after ns ms h k = spaced_sizes_one_to_one ns ms h.1 k.1 (sym h.0 ∙ k.0)
 
-one_part : (k : ℕ) (after ns ms : List ℕ) → TellsPart k after ns → TellsPart k after ms → ns ≡ ms
+pub one_part : (k : ℕ) (after ns ms : List ℕ) → TellsPart k after ns → TellsPart k after ms → ns ≡ ms
 one_part k after ns ms h g =
     let same : spaced_sizes ns ≡ spaced_sizes ms = append_cancel_left (32 ∷ decimal k) (spaced_sizes ns) (spaced_sizes ms) (sym h.0 ∙ g.0) in
     spaced_sizes_one_to_one ns ms h.1 g.1 same
 
-one_values : (after : List ℕ) (vs ws : List ℤ) → TellsValues after vs → TellsValues after ws → vs ≡ ws
+pub one_values : (after : List ℕ) (vs ws : List ℤ) → TellsValues after vs → TellsValues after ws → vs ≡ ws
 one_values after vs ws h k = spaced_one_to_one vs ws h.1 k.1 (sym h.0 ∙ k.0)
 
 -- ---- what is due next
@@ -82,7 +80,7 @@ bare_is wrap.Atomic h = elim h [ ]
 bare_is (wrap.Mutex n) h = elim h [ ]
 bare_is wrap.Shard h = elim h [ ]
 
-same_format : (f g : TensorFormat) → IsBare f.wrap → IsBare g.wrap → f.levels ≡ g.levels → f.fill ≡ g.fill → f ≡ g
+pub same_format : (f g : TensorFormat) → IsBare f.wrap → IsBare g.wrap → f.levels ≡ g.levels → f.fill ≡ g.fill → f ≡ g
 same_format f g b c ls fill =
     let same : f.wrap ≡ g.wrap = bare_is f.wrap b ∙ sym (bare_is g.wrap c) in
     λ i. record { levels = ls i; wrap = same i; fill = fill i }
@@ -108,8 +106,8 @@ not_all x y d e s h k =
     let f : length d.format.levels ≡ length e.format.levels = ap (λ g. length g.levels) s.format_is in
     omega arith
 
-back : (x y : List ℕ) (d e : Draft) → SameDraft x d y e → SameDraft y e x d
-back x y d e s = record { name_is = sym s.name_is; format_is = sym s.format_is; shape_is = sym s.shape_is; parts_are = sym s.parts_are }
+pub back_draft : (x y : List ℕ) (d e : Draft) → SameDraft x d y e → SameDraft y e x d
+back_draft x y d e s = record { name_is = sym s.name_is; format_is = sym s.format_is; shape_is = sym s.shape_is; parts_are = sym s.parts_are }
 
 next_after : (n m : List ℕ) (f g : TensorFormat) (ns ms : List ℕ) (ps qs : List Part) (d e : Due) → n ≡ m → f ≡ g → ns ≡ ms → ps ≡ qs → IsAfter n f ns ps d → IsAfter m g ms qs e → SameDue d e
 next_after n m f g ns ms ps qs (Ptr x) (Ptr y) a b c p h k = ptrs x y (same_told n m f g ns ms (with_dense f ps) (with_dense g qs) x.name y.name x.draft y.draft a b c (ap₂ with_dense b p) h k)
@@ -119,7 +117,7 @@ next_after n m f g ns ms ps qs (Ptr x) (Val y) a b c p h k =
     absurd (not_all x.name y.name x.draft y.draft s x.within y.all)
 next_after n m f g ns ms ps qs (Val x) (Ptr y) a b c p h k =
     let s = same_told n m f g ns ms (with_dense f ps) (with_dense g qs) x.name y.name x.draft y.draft a b c (ap₂ with_dense b p) h k in
-    absurd (not_all y.name x.name y.draft x.draft (back x.name y.name x.draft y.draft s) y.within x.all)
+    absurd (not_all y.name x.name y.draft x.draft (back_draft x.name y.name x.draft y.draft s) y.within x.all)
 next_after n m f g ns ms ps qs (Ptr x) _ a b c p h k = elim k [ ]
 next_after n m f g ns ms ps qs (Val x) _ a b c p h k = elim k [ ]
 next_after n m f g ns ms ps qs _ e a b c p h k = elim h [ ]
@@ -137,7 +135,7 @@ next_end n m d e vs ws (End x s) (End y t) same q h k =
 next_end n m d e vs ws (End x s) _ same q h k = elim k [ ]
 next_end n m d e vs ws _ y same q h k = elim h [ ]
 
-one_head : (after n m : List ℕ) → after ≡ 32 ∷ n → after ≡ 32 ∷ m → n ≡ m
+pub one_head : (after n m : List ℕ) → after ≡ 32 ∷ n → after ≡ 32 ∷ m → n ≡ m
 one_head after n m h k = let same : 32 ∷ n ≡ 32 ∷ m = sym h ∙ k in cc
 
 pub same_level : (x y : List ℕ) (d e : Draft) → SameDraft x d y e → due_level d ≡ due_level e

@@ -1,42 +1,38 @@
 -- A line of a text of tensors is taken or breaks a rule, in one way.
-use Rattle.std.proofs.Common.{◌≡◌, ◌≢◌, ◌∙◌, ◌⊎◌, inl, inr, ℕ, ◌+◌, ◌<◌, List, [], ◌∷◌, ◌++◌, length, map, false, refl, sym, ap, ap₂, subst, arith}
-use Rattle.std.specs.Prelude.{All, Contains, Result, Ok, Err}
-use Rattle.fin_base.specs.declared.refusal.Fail.TheVariants.{Refused}
-use Rattle.fin_base.specs.declared.refusal.Refusal.{Refusal}
+use Rattle.std.proofs.Common.{◌≡◌, ◌∙◌, ◌⊎◌, inl, inr, ℕ, List, [], ◌∷◌, ◌++◌, map, false, refl, sym, ap₂, subst, arith}
+use Rattle.std.specs.Prelude.{Contains}
 use Rattle.fin_base.specs.declared.refusal.Rule.{Rule}
-use Rattle.fin_base.specs.declared.refusal.Rule.TheVariants.{X1, X2, X3, X4, X5}
 use Rattle.fin_tensor.specs.Placement.{is_dense}
 use Rattle.fin_tensor.specs.declared.format.Level.{Level}
 use Rattle.fin_tensor.specs.declared.format.Level.TheVariants as level
-use Rattle.fin_text.specs.DueLines.{Breaks, HasForm, HasNumbers, IsTaken, IsValid, TellsOtherLevel, due_level, due_word, invalid_rule, known_words, second_word}
+use Rattle.fin_text.specs.DueLines.{Breaks, HasForm, HasNumbers, IsTaken, IsValid, TellsOtherLevel, due_level, due_word, known_words, second_word}
 use Rattle.fin_text.specs.Numbers.{IsFirstWord}
-use Rattle.fin_text.specs.Reading.{BreaksLine, BreaksNext, BreaksText, ComesTo, IsAfterLine, IsAfterRest, IsBetween, IsFresh, IsRead, Reads, ReadsTensors, Skips, names_of}
+use Rattle.fin_text.specs.Reading.{BreaksLine, ComesTo, IsAfterLine, IsAfterRest, IsBetween, Skips, names_of}
 use Rattle.fin_text.specs.declared.due.Due.{Due}
 use Rattle.fin_text.specs.declared.due.Due.TheVariants.{Tensor, Format, Fill, Shape, Ptr, Second, Val, End}
 use Rattle.fin_text.specs.declared.read.Given.{Given}
 use Rattle.fin_text.specs.declared.read.Reader.{Reader}
-use Rattle.fin_text.proofs.Cuts.{cut_at_one_place, cut_nowhere}
 use Rattle.fin_text.proofs.OneDue.{back, same_word, same_between, both_between, same_other, same_form, same_numbers, same_valid, same_rule, taken_no_other, taken_numbers, taken_valid}
 use Rattle.fin_text.proofs.OneLine.{SameDue, same_taken}
 use Rattle.fin_text.proofs.Reading.{one_cut}
 
 -- the same was read, but for the line of a tensor that hasn't begun
 pub record Agree (r s : Reader) : Type 0 where
-  pub given_is : r.given ≡ s.given
+  pub given_is : r.given.entries ≡ s.given.entries
   pub due_is : SameDue r.due s.due
   pub since_is : IsBetween r.due ⊎ (r.since ≡ s.since)
 
 -- ---- a line that is taken
 
-inside : (d e : Due) (r s : Reader) (after : List ℕ) (x y : Reader) → (IsBetween d → ⊥) → SameDue d e → r.given ≡ s.given → IsBetween d ⊎ (r.since ≡ s.since)
-    → x.given ≡ r.given → x.since ≡ r.since → IsTaken [] d after x.due → y.given ≡ s.given → y.since ≡ s.since → IsTaken [] e after y.due → Agree x y
+inside : (d e : Due) (r s : Reader) (after : List ℕ) (x y : Reader) → (IsBetween d → ⊥) → SameDue d e → r.given.entries ≡ s.given.entries → IsBetween d ⊎ (r.since ≡ s.since)
+    → x.given.entries ≡ r.given.entries → x.since ≡ r.since → IsTaken [] d after x.due → y.given.entries ≡ s.given.entries → y.since ≡ s.since → IsTaken [] e after y.due → Agree x y
 inside d e r s after x y not q g since xg xs h yg ys k = record {
   given_is = xg ∙ g ∙ sym yg;
   due_is = same_taken [] d e after x.due y.due q h k;
   since_is = elim since [ inl b ↦ elim (not b) [ ] | inr l ↦ inr (xs ∙ l ∙ sym ys) ];
 }
 
-rest_agrees : (d e : Due) (r s : Reader) (line : ℕ) (after : List ℕ) (x y : Reader) → SameDue d e → r.given ≡ s.given → IsBetween d ⊎ (r.since ≡ s.since)
+rest_agrees : (d e : Due) (r s : Reader) (line : ℕ) (after : List ℕ) (x y : Reader) → SameDue d e → r.given.entries ≡ s.given.entries → IsBetween d ⊎ (r.since ≡ s.since)
     → IsAfterRest d r line after x → IsAfterRest e s line after y → Agree x y
 rest_agrees d e r s line after x y SameDue.tensors g since (xg, xs, _, h) (yg, ys, _, k) = record {
   given_is = xg ∙ g ∙ sym yg;
@@ -58,7 +54,7 @@ rest_agrees d e r s line after x y (SameDue.ptrs a b p) g since (xg, xs, _, h) (
 rest_agrees d e r s line after x y (SameDue.seconds a b p q) g since (xg, xs, _, h) (yg, ys, _, k) = inside d e r s after x y (λ c. c) (SameDue.seconds a b p q) g since xg xs h yg ys k
 rest_agrees d e r s line after x y (SameDue.vals a b p) g since (xg, xs, _, h) (yg, ys, _, k) = inside d e r s after x y (λ c. c) (SameDue.vals a b p) g since xg xs h yg ys k
 
-one_word : (bytes w a v b : List ℕ) → IsFirstWord bytes w a → IsFirstWord bytes v b → (w ≡ v) × (a ≡ b)
+pub one_word : (bytes w a v b : List ℕ) → IsFirstWord bytes w a → IsFirstWord bytes v b → (w ≡ v) × (a ≡ b)
 one_word bytes w a v b h k = one_cut w a v b h.spaceless k.spaceless h.ends k.ends (sym h.whole ∙ k.whole)
 
 pub skips_too : (r s : Reader) (bytes : List ℕ) → Agree r s → Skips r bytes → Skips s bytes
@@ -92,7 +88,7 @@ after_facts (Ptr a) r line after x h = (taken_no_other [] (Ptr a) after x.due h.
 after_facts (Second b) r line after x h = (taken_no_other [] (Second b) after x.due h.3, h.2, taken_numbers [] (Second b) after x.due h.3, taken_valid [] (Second b) after x.due h.3)
 after_facts (Val a) r line after x h = (λ t. t, h.2, taken_numbers [] (Val a) after x.due h.3, taken_valid [] (Val a) after x.due h.3)
 
-unbroken : (given : List (List ℕ)) (d : Due) (after : List ℕ) (rule : Rule) → ¬ (TellsOtherLevel d after) → HasForm d after → HasNumbers d after → IsValid given d after → Breaks given d after rule → ⊥
+pub unbroken : (given : List (List ℕ)) (d : Due) (after : List ℕ) (rule : Rule) → ¬ (TellsOtherLevel d after) → HasForm d after → HasNumbers d after → IsValid given d after → Breaks given d after rule → ⊥
 unbroken given d after rule a b c v (Breaks.other_level h) = a h
 unbroken given d after rule a b c v (Breaks.misformed n h) = h b
 unbroken given d after rule a b c v (Breaks.misspelled n f h) = h c
@@ -126,7 +122,7 @@ breaks_too given d e after rule q (Breaks.invalid n a b h) =
     (Breaks.invalid (λ t. n (same_other e d after (back d e q) t)) (same_form d e after q a) (same_numbers d e after q b) (λ t. h (same_valid given e d after (back d e q) t)))
 
 -- the words that may be due are known
-is_known : (d : Due) → Contains known_words (due_word d)
+pub is_known : (d : Due) → Contains known_words (due_word d)
 is_known Tensor = (0, omega arith, refl)
 is_known (Format n) = (1, omega arith, refl)
 is_known (Fill f) = (2, omega arith, refl)

@@ -1,11 +1,9 @@
 -- A text of tensors is read or refused in one way.
-use Rattle.std.proofs.Common.{◌≡◌, ◌≢◌, ◌∙◌, ◌⊎◌, inl, inr, ℕ, ◌+◌, List, [], ◌∷◌, ◌++◌, refl, sym, ap, subst}
+use Rattle.std.proofs.Common.{◌≡◌, ◌≢◌, ◌∙◌, inl, ℕ, ◌+◌, List, ◌∷◌, ◌++◌, refl, sym, ap, subst}
 use Rattle.std.specs.Prelude.{All, Result, Ok, Err}
-use Rattle.fin_base.specs.declared.refusal.Fail.{Fail}
 use Rattle.fin_base.specs.declared.refusal.Fail.TheVariants.{Refused}
 use Rattle.fin_base.specs.declared.refusal.Refusal.{Refusal}
 use Rattle.fin_base.specs.declared.refusal.Rule.{Rule}
-use Rattle.fin_base.specs.declared.refusal.Rule.TheVariants.{X3}
 use Rattle.fin_text.specs.Reading.{BreaksLine, BreaksNext, BreaksText, ComesTo, IsFresh, IsRead, Reads, ReadsTensors, Skips}
 use Rattle.fin_text.specs.declared.read.Given.{Given}
 use Rattle.fin_text.specs.declared.read.Reader.{Reader}
@@ -13,15 +11,15 @@ use Rattle.fin_text.proofs.Cuts.{cut_at_one_place, cut_nowhere}
 use Rattle.fin_text.proofs.OneDue.{both_between}
 use Rattle.fin_text.proofs.OneReading.{Agree, one_break, same_line, skips_too, swap, taken_or_broken}
 
-abbrev Given_list : Type 0
+abbrev pub Given_list : Type 0
 Given_list = List (List ℕ × Given)
 
-abbrev Answer : Type 0
+abbrev pub Answer : Type 0
 Answer = Result Given_list Refusal
 
 -- what comes of so much of a text, line by line
-data Onward : Reader → List ℕ → ℕ → Answer → Type 0 where
-  ended : {r : Reader} {left : List ℕ} {line : ℕ} {v : Answer} → All (λ b. b ≢ 10) left → Skips r left → v ≡ Ok r.given → Onward r left line v
+pub data Onward : Reader → List ℕ → ℕ → Answer → Type 0 where
+  ended : {r : Reader} {left : List ℕ} {line : ℕ} {v : Answer} → All (λ b. b ≢ 10) left → Skips r left → v ≡ Ok r.given.entries → Onward r left line v
   broken : {r : Reader} {left : List ℕ} {line : ℕ} {v : Answer} (rule : Rule) → BreaksNext r left rule → v ≡ Err (record { rule = rule; line = line }) → Onward r left line v
   step : {r : Reader} {left : List ℕ} {line : ℕ} {v : Answer} (x : Reader) (bytes more : List ℕ) → left ≡ bytes ++ 10 ∷ more → All (λ b. b ≢ 10) bytes → ComesTo r line bytes x → Onward x more (line + 1) v → Onward r left line v
 
@@ -73,10 +71,10 @@ fresh_agree r s h k = record { given_is = h.0 ∙ sym k.0; due_is = both_between
 one_whole : (text : List ℕ) (first : ℕ) (v w : Answer) → ((s : Reader) × IsFresh s × Onward s text first v) → ((s : Reader) × IsFresh s × Onward s text first w) → v ≡ w
 one_whole text first v w (r, h, o) (s, k, i) = one_onward r s text first v w (fresh_agree r s h k) o i
 
-read_whole : (text : List ℕ) (first : ℕ) (given : Given_list) → IsRead text first given → (s : Reader) × IsFresh s × Onward s text first (Ok given)
+pub read_whole : (text : List ℕ) (first : ℕ) (given : Given_list) → IsRead text first given → (s : Reader) × IsFresh s × Onward s text first (Ok given)
 read_whole text first given h = whole text first h.left h.line h.reader (Ok given) h.reads (Onward.ended h.unended h.between (ap (λ g. Ok g) h.given_is))
 
-refused_whole : (text : List ℕ) (first : ℕ) (refusal : Refusal) → BreaksText text first refusal.line refusal.rule → (s : Reader) × IsFresh s × Onward s text first (Err refusal)
+pub refused_whole : (text : List ℕ) (first : ℕ) (refusal : Refusal) → BreaksText text first refusal.line refusal.rule → (s : Reader) × IsFresh s × Onward s text first (Err refusal)
 refused_whole text first refusal h = whole text first h.left refusal.line h.reader (Err refusal) h.reads (Onward.broken refusal.rule h.breaks refl)
 
 -- a text gives one list of tensors

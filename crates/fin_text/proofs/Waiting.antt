@@ -1,9 +1,9 @@
 -- Texts that go to a sink through a buffer, one step after another.
-use Rattle.std.proofs.Common.{◌≡◌, ℕ, ◌+◌, ◌<◌, add-one, ℤ, pos, List, [], ◌∷◌, ◌++◌, take, drop, get_or, length, codes, Result, Ok, Err, IsErr, MatchResult, FitsSigned, w64, to_z, of_z, sym, ap, ◌∙◌, subst, append_assoc}
+use Rattle.std.proofs.Common.{◌≡◌, ℕ, ◌+◌, ◌<◌, add-one, ℤ, pos, List, [], ◌∷◌, ◌++◌, take, drop, get_or, length, Result, Ok, Err, IsErr, MatchResult, FitsSigned, w64, to_z, of_z, sym, ap, ◌∙◌, subst, append_assoc}
 use Rattle.std.specs.declared.option.Option.{Option}
 use Rattle.std.specs.Io.KnownBytes.{Appends}
 use Rattle.std.proofs.KnownBytes.{Appends-nil, Appends-trans}
-use Rattle.std.proofs.lemmas.List.{append-nil, take-append-drop, flat_map_more}
+use Rattle.std.proofs.lemmas.List.{take-append-drop, flat_map_more}
 use Rattle.std.proofs.lemmas.Int.{to_z-of_z}
 use Rattle.std.proofs.lemmas.Grind.{flat_map-append}
 use Rattle.std.proofs.Math.Seq.{take-append_seam, take-suc}

@@ -7,3 +7,4 @@ pub mod Putting
 pub mod OneProof
 pub mod DueLines
 pub mod Reading
+pub mod Laws

@@ -1,13 +1,14 @@
 -- A text of tensors, line by line.
-use Rattle.std.specs.Prelude.{◌≡◌, ◌≢◌, ℕ, ◌+◌, List, [], ◌∷◌, ◌++◌, All, Contains, map, Result, MatchResult}
+use Rattle.std.specs.Prelude.{◌≡◌, ◌≢◌, ℕ, ◌+◌, List, [], ◌∷◌, ◌++◌, All, Contains, Result, MatchResult}
 use Rattle.fin_base.specs.declared.refusal.Fail.{Fail}
 use Rattle.fin_base.specs.declared.refusal.Fail.TheVariants as fail
 use Rattle.fin_base.specs.declared.refusal.Rule.{Rule}
 use Rattle.fin_base.specs.declared.refusal.Rule.TheVariants.{X1, X3}
+use Rattle.indexmap.specs.IndexMap.{keys}
 use Rattle.fin_text.specs.DueLines.{HasForm, IsTaken, Breaks, FailsBy, due_word, known_words}
 use Rattle.fin_text.specs.Numbers.{IsFirstWord}
 use Rattle.fin_text.specs.declared.due.Due.{Due}
-use Rattle.fin_text.specs.declared.due.Due.TheVariants.{Tensor, End}
+use Rattle.fin_text.specs.declared.due.Due.TheVariants.{Tensor, Format, Fill, Shape, Ptr, Second, Val, End}
 use Rattle.fin_text.specs.declared.due.LineFail.{LineFail}
 use Rattle.fin_text.specs.declared.due.LineFail.TheVariants.{Broken, Memory}
 use Rattle.fin_text.specs.declared.read.Given.{Given}
@@ -28,16 +29,27 @@ abbrev pub Skips : Reader → List ℕ → Type 0
 Skips reader bytes = IsBetween reader.due × IsSkipped bytes
 
 abbrev pub names_of : Reader → List (List ℕ)
-names_of reader = map (λ g. g.0) reader.given
+names_of reader = keys reader.given
+
+-- the tensor that is being read has another name than these
+abbrev pub IsNew : List (List ℕ) → Due → Type 0
+IsNew names Tensor = Unit {0}
+IsNew names (Format name) = ¬ (Contains names name)
+IsNew names (Fill head) = ¬ (Contains names head.name)
+IsNew names (Shape head) = ¬ (Contains names head.name)
+IsNew names (Ptr at) = ¬ (Contains names at.name)
+IsNew names (Second below) = ¬ (Contains names below.name)
+IsNew names (Val at) = ¬ (Contains names at.name)
+IsNew names (End name storage) = ¬ (Contains names name)
 
 -- what follows the due word makes this of what was read
 abbrev pub IsAfterRest : Due → Reader → ℕ → List ℕ → Reader → Type 0
 IsAfterRest Tensor old line after new =
-    (new.given ≡ old.given) × (new.since ≡ line) × HasForm Tensor after × IsTaken (names_of old) Tensor after new.due
+    (new.given.entries ≡ old.given.entries) × (new.since ≡ line) × HasForm Tensor after × IsTaken (names_of old) Tensor after new.due
 IsAfterRest (End name storage) old line after new =
-    (new.given ≡ old.given ++ (name, record { storage = storage; line = old.since }) ∷ []) × IsBetween new.due × HasForm (End name storage) after
+    (new.given.entries ≡ old.given.entries ++ (name, record { storage = storage; line = old.since }) ∷ []) × IsBetween new.due × HasForm (End name storage) after
 IsAfterRest due old line after new =
-    (new.given ≡ old.given) × (new.since ≡ old.since) × HasForm due after × IsTaken [] due after new.due
+    (new.given.entries ≡ old.given.entries) × (new.since ≡ old.since) × HasForm due after × IsTaken [] due after new.due
 
 -- a line that isn't skipped makes this of what was read
 pub record IsAfterLine (old : Reader) (line : ℕ) (bytes : List ℕ) (new : Reader) : Type 0 where
@@ -69,7 +81,7 @@ ReadsLine old line bytes result = MatchResult result
 
 -- nothing is read yet
 abbrev pub IsFresh : Reader → Type 0
-IsFresh reader = (reader.given ≡ []) × IsBetween reader.due
+IsFresh reader = (reader.given.entries ≡ []) × IsBetween reader.due
 
 -- what was read when so much of the text is left, whose first line has that number
 pub data Reads (text : List ℕ) (first : ℕ) : List ℕ → ℕ → Reader → Type 0 where
@@ -90,7 +102,7 @@ pub record IsRead (text : List ℕ) (first : ℕ) (given : List (List ℕ × Giv
   pub reads : Reads text first left line reader
   pub unended : All (λ b. b ≢ 10) left
   pub between : Skips reader left
-  pub given_is : given ≡ reader.given
+  pub given_is : given ≡ reader.given.entries
 
 -- the first line of a text that breaks a rule
 pub record BreaksText (text : List ℕ) (first line : ℕ) (rule : Rule) : Type 0 where

@@ -6,6 +6,7 @@
 
 mod due;
 mod forms;
+mod laws;
 mod names;
 mod numbers;
 mod pieces;
@@ -17,6 +18,7 @@ mod tests;
 mod words;
 mod write;
 
+pub use laws::{reads_back, reads_on};
 pub use names::{is_name, name_from};
 pub use numbers::{read_size, read_value};
 pub use read::{Given, read_tensors};

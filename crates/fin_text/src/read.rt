@@ -1,10 +1,9 @@
 //! Reads the text of tensors, line by line.
-ghost use Rattle.std.specs.Prelude.{◌≡◌, ◌≢◌, ◌↔◌, ◌++◌, ◌∷◌, [], ◌≤◌, ◌^◌, ℕ, List, All, Contains, IsTrue, MatchOption, map, length};
-ghost use Rattle.std.specs.List.{list_any};
-ghost use Rattle.std.specs.Str.{bytes_eq};
+ghost use Rattle.std.specs.Prelude.{◌≡◌, ◌≢◌, ◌↔◌, ◌++◌, ◌∷◌, [], ◌≤◌, ◌^◌, ℕ, List, All, Contains, IsTrue, MatchOption, MatchResult, OnOk, length};
+ghost use Rattle.indexmap.specs.IndexMap.{keys};
 ghost use Rattle.fin_text.specs.DueLines.{TakesLine, due_word, known_words};
 ghost use Rattle.fin_text.specs.Names.{IsName};
-ghost use Rattle.fin_text.specs.Reading.{IsSkipped, IsBetween, ReadsLine, ReadsRest, ReadsTensors, fail_at};
+ghost use Rattle.fin_text.specs.Reading.{IsNew, IsRead, IsSkipped, IsBetween, ReadsLine, ReadsRest, RefusesText, fail_at, names_of};
 ghost use Rattle.fin_text.specs.declared.due.Due.TheVariants.{Tensor};
 
 use crate::due::{Due, LineFail};
@@ -13,8 +12,9 @@ use crate::names::{is_listed, is_name, name_from};
 use crate::take::take_line;
 use crate::words::split_word;
 use fin_base::{Fail, Refusal, Rule};
-use fin_tensor::{Name, Seq, Storage};
-use std::alloc::Global;
+use fin_tensor::{Name, Storage};
+use indexmap::IndexMap;
+use std::alloc::{AllocError, Global};
 
 // The words that lines begin with.
 const KNOWN: [&[u8]; 10] = [
@@ -33,25 +33,29 @@ pub struct Given {
 // The tensors so far, the first line of the one that is being read, and which line is due.
 #[derive(Drop)]
 pub(crate) struct Reader {
-    pub(crate) given: Seq<(Name, Given)>,
+    pub(crate) given: IndexMap<Name, Given>,
     pub(crate) since: u32,
     pub(crate) due: Due,
 }
 
-/// The tensors of a text, in its order; its first line has that number.
+/// The tensors of a text by their names, in its order; its first line has that number.
 ///
 /// # Errors
 ///
 /// The first line that breaks a rule: `X1` where its first word is unknown or the line misformed, `X2` where a number
 /// is misspelled or out of its range, `X3` where another line is due or the text ends, `X4` where the storage isn't
 /// valid, `X5` where the name was given before. Or memory ran out.
-pub fn read_tensors(alloc: Global, text: &[u8], first_line: u32) -> Result<Seq<(Name, Given)>, Fail>
+pub fn read_tensors(
+    alloc: Global,
+    text: &[u8],
+    first_line: u32,
+) -> Result<IndexMap<Name, Given>, Fail>
     requires short { length text.now ≤ 2 ^ 24 }
     requires first_line { first_line ≤ 2 ^ 31 }
-    ensures { ReadsTensors text.now first_line result }
+    ensures { MatchResult result (λ tensors. IsRead text.now first_line tensors.entries) (RefusesText text.now first_line) }
 {
     let mut reader = Reader {
-        given: Seq::new(alloc),
+        given: IndexMap::new(alloc),
         since: 0,
         due: Due::Tensor,
     };
@@ -83,6 +87,7 @@ fn fail_at(fail: LineFail, line: u32) -> Fail
 impl Reader {
     // Takes a line, without its newline.
     fn take(self, alloc: Global, line: u32, bytes: &[u8]) -> Result<Reader, LineFail>
+        requires { IsNew (names_of self) self.due }
         ensures { ReadsLine self line bytes.now result }
     {
         if self.skips(bytes) {
@@ -100,12 +105,13 @@ impl Reader {
 
     // Takes what follows the due word.
     fn take_rest(self, alloc: Global, line: u32, after: &[u8]) -> Result<Reader, LineFail>
+        requires { IsNew (names_of self) self.due }
         ensures { ReadsRest self line after.now result }
     {
         let Reader { given, since, due } = self;
         match due {
             Due::Tensor => {
-                let due = take_tensor(alloc, given.as_slice(), after)?;
+                let due = take_tensor(alloc, &given, after)?;
                 Ok(Reader {
                     given,
                     since: line,
@@ -116,14 +122,12 @@ impl Reader {
                 if has_bytes(after) {
                     return Err(LineFail::Broken(Rule::X1));
                 }
+                let tensor = Given {
+                    storage,
+                    line: since,
+                };
                 let mut given = given;
-                given.push((
-                    name,
-                    Given {
-                        storage,
-                        line: since,
-                    },
-                ))?;
+                put_last(&mut given, name, tensor)?;
                 Ok(Reader {
                     given,
                     since,
@@ -147,16 +151,16 @@ impl Reader {
     }
 }
 
-fn take_tensor(alloc: Global, given: &[(Name, Given)], after: &[u8]) -> Result<Due, LineFail>
-    ensures { TakesLine (map (λ g. g.0) given.now) Tensor after.now result }
+fn take_tensor(alloc: Global, given: &IndexMap<Name, Given>, after: &[u8]) -> Result<Due, LineFail>
+    ensures { TakesLine (keys given.now) Tensor after.now result }
 {
     let Some(word) = name_word(after) else {
         return Err(LineFail::Broken(Rule::X1));
     };
-    if is_given(given, word) {
+    let name = name_from(alloc, word)?;
+    if is_given(given, &name) {
         return Err(LineFail::Broken(Rule::X5));
     }
-    let name = name_from(alloc, word)?;
     Ok(Due::Format { name })
 }
 
@@ -173,10 +177,19 @@ fn name_word(after: &[u8]) -> Option<&[u8]>
     }
 }
 
-fn is_given(given: &[(Name, Given)], word: &[u8]) -> bool
-    ensures { result ≡ list_any (λ g. bytes_eq g.0 word.now) given.now }
+fn is_given(given: &IndexMap<Name, Given>, name: &Name) -> bool
+    ensures { IsTrue result ↔ Contains (keys given.now) name.now }
 {
-    given.iter().any(|(name, _)| name.as_slice() == word)
+    given.contains_key(name)
+}
+
+// A new name goes last.
+fn put_last(given: &mut IndexMap<Name, Given>, name: Name, tensor: Given) -> Result<(), AllocError>
+    requires { Contains (keys given.old) name → ⊥ }
+    ensures { OnOk result (given.new.entries ≡ given.old.entries ++ (name, tensor) ∷ []) }
+{
+    given.insert(name, tensor)?;
+    Ok(())
 }
 
 fn is_known(word: &[u8]) -> bool

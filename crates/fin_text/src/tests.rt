@@ -78,7 +78,7 @@ fn reads_and_writes_a_tensor(rt: HostRuntime) -> Result<(), Fail> {
         b"tensor A\nformat dense list element\nfill -1\nshape 2 3\nptr 1 0 2 3\nidx 1 0 2 1\nval 5 0 -7\nend\n";
     let given = read_tensors(alloc, text, 4)?;
     let mut sink = MemSink::new(alloc, 100, 16, Vec::new(alloc))?;
-    for (name, tensor) in given.as_slice() {
+    for (name, tensor) in &given {
         assert_eq!(rt; tensor.line, 4);
         assert!(rt; write_tensor(alloc, &mut sink, name, &tensor.storage).is_ok());
     }

@@ -1,0 +1,13 @@
+//! What is true of the texts of tensors.
+ghost use Rattle.fin_text.specs.Laws.{ReadsBack, ReadsOn};
+
+/// Reading the text of a tensor gives that tensor, and nothing else.
+pub fn reads_back()
+    ensures { ReadsBack }
+{}
+
+/// It does so too where more follows: the tensor is the first that is read, and a line behind its text alone can be
+/// refused.
+pub fn reads_on()
+    ensures { ReadsOn }
+{}
