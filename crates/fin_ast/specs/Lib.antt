@@ -9,3 +9,6 @@ pub mod Ties
 pub mod Sizes
 pub mod Choices
 pub mod Infer
+pub mod Text
+pub mod Modes
+pub mod Life

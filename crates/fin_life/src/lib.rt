@@ -1,0 +1,9 @@
+//! Modes of tensors: puts freeze and thaw into a program, and the rules on the life of tensors and on the order of
+//! their updates.
+#![tactic(auto)]
+
+mod breach;
+mod life;
+mod modes;
+
+pub use life::check_life;
