@@ -12,3 +12,4 @@ pub mod Infer
 pub mod Text
 pub mod Modes
 pub mod Life
+pub mod Insertion

@@ -12,6 +12,7 @@ use Rattle.fin_ast.specs.declared.mode.Mode.TheVariants.{Undeclared, Read}
 use Rattle.fin_ast.specs.Kinds.{is_input}
 use Rattle.fin_ast.specs.Sizes.{first_from}
 use Rattle.fin_ast.specs.Modes.{is_input_header, is_input_at, mode_at_start}
+use Rattle.fin_life.specs.Drafts.{Carried, in_turn}
 use Rattle.fin_life.specs.Passage.{turned}
 
 from_next : (f : ℕ → Option Refusal) (m k : ℕ) (hs : List Header) → k < length hs → first_from (λ t h. f t) m (drop k hs) ≡ option_or (f m) (first_from (λ t h. f t) (m + 1) (drop (suc k) hs))
@@ -22,6 +23,15 @@ from_next f m (suc k) (h ∷ hs) l = from_next f m k hs (omega arith)
 -- a test that looks at no header
 pub first_next : (f : ℕ → Option Refusal) (k : ℕ) (hs : List Header) → k < length hs → first_from (λ t h. f t) k (drop k hs) ≡ option_or (f k) (first_from (λ t h. f t) (k + 1) (drop (k + 1) hs))
 first_next f k hs l = let e : k + 1 ≡ suc k = omega arith in from_next f k k hs l ∙ ap (λ (n : ℕ). option_or (f k) (first_from (λ t h. f t) (k + 1) (drop n hs))) (sym e)
+
+turn_at : (f : ℕ → Carried → Carried) (m k : ℕ) (hs : List Header) (d : Carried) → k < length hs → in_turn (λ t h. f t) m (drop k hs) d ≡ in_turn (λ t h. f t) (m + 1) (drop (suc k) hs) (f m d)
+turn_at f m k [] d l = absurd (omega arith)
+turn_at f m zero (h ∷ hs) d l = refl
+turn_at f m (suc k) (h ∷ hs) d l = turn_at f m k hs d (omega arith)
+
+-- a step that looks at no header
+pub turn_next : (f : ℕ → Carried → Carried) (k : ℕ) (hs : List Header) (d : Carried) → k < length hs → in_turn (λ t h. f t) k (drop k hs) d ≡ in_turn (λ t h. f t) (k + 1) (drop (k + 1) hs) (f k d)
+turn_next f k hs d l = let e : k + 1 ≡ suc k = omega arith in turn_at f k k hs d l ∙ ap (λ (n : ℕ). in_turn (λ t h. f t) (k + 1) (drop n hs) (f k d)) (sym e)
 
 last_input : (xs : List Header) (h : Header) (t : ℕ) → t ≡ length xs → is_input_at (xs ++ h ∷ []) t ≡ is_input h.kind
 last_input [] h zero e = refl

@@ -1,2 +1,5 @@
 pub mod Passage
 pub mod Table
+pub mod Mentions
+pub mod Drafts
+pub mod Completing

@@ -3,7 +3,10 @@
 #![tactic(auto)]
 
 mod breach;
+mod insertion;
 mod life;
+mod mentions;
 mod modes;
 
+pub use insertion::complete;
 pub use life::check_life;

@@ -3,6 +3,7 @@ ghost use Rattle.std.specs.Prelude.{◌≡◌, ◌≤◌, IfOk, IfErr, length, L
 ghost use Rattle.fin_ast.specs.Life.{life_in, breach_by, first_changed as first_changed_of, first_unread as first_unread_of};
 ghost use Rattle.fin_ast.specs.declared.header.Header.{Header};
 ghost use Rattle.fin_ast.specs.Text.{Updates, Declares, Freezes, Thaws};
+ghost use Rattle.fin_life.specs.Completing.{completing_of};
 ghost use Rattle.fin_life.specs.Passage.{breach_of_expr, breach_in, body_breach, after_all, passage_of, passages_of, program_breach};
 ghost use Rattle.fin_life.specs.Table.{mode_in};
 
@@ -131,8 +132,9 @@ fn inner_breach(headers: &[Header], body: &[Stmt], last: u32, begin: &Modes) -> 
 }
 
 /// The modes after a statement.
-fn lead(statement: &Stmt, now: &mut Modes)
-    ensures { (headers : List Header) → mode_in now.new ≡ (passage_of headers statement.now).after (mode_in now.old) }
+pub fn lead(statement: &Stmt, now: &mut Modes)
+    ensures inserting { (headers : List Header) → mode_in now.new ≡ (completing_of headers statement.now).after (mode_in now.old) }
+    ensures looking { (headers : List Header) → mode_in now.new ≡ (passage_of headers statement.now).after (mode_in now.old) }
 {
     match statement {
         Stmt::Declare {
