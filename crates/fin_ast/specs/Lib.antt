@@ -13,3 +13,4 @@ pub mod Text
 pub mod Modes
 pub mod Life
 pub mod Insertion
+pub mod Order

@@ -4,3 +4,6 @@ pub mod Equations
 pub mod Noted
 pub mod Inserted
 pub mod Kept
+pub mod Carried
+pub mod Trailed
+pub mod Around

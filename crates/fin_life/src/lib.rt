@@ -5,8 +5,12 @@
 mod breach;
 mod insertion;
 mod life;
+mod loops;
 mod mentions;
 mod modes;
+mod order;
+mod tracks;
 
 pub use insertion::complete;
 pub use life::check_life;
+pub use order::check_order;
