@@ -9,3 +9,8 @@ pub mod Ties
 pub mod Sizes
 pub mod Choices
 pub mod Infer
+pub mod Text
+pub mod Modes
+pub mod Life
+pub mod Insertion
+pub mod Order

@@ -8,6 +8,7 @@ mod checked;
 mod copy;
 mod gather;
 mod header;
+mod mode;
 mod place;
 mod program;
 #[cfg(test)]
@@ -16,6 +17,7 @@ mod tree;
 
 pub use checked::{Checked, Dims, LoopWays, Ways};
 pub use header::{Header, Kind};
+pub use mode::Mode;
 pub use place::{Place, Tie};
 pub use program::Program;
 pub use tree::{Expr, Index, Stmt};

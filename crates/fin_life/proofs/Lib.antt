@@ -1,0 +1,9 @@
+pub mod Headers
+pub mod Behaviour
+pub mod Equations
+pub mod Noted
+pub mod Inserted
+pub mod Kept
+pub mod Carried
+pub mod Trailed
+pub mod Around

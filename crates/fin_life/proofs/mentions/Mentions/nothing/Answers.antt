@@ -1,0 +1,12 @@
+use Rattle.std.proofs.Common.{◌≡◌, ℕ, zero, suc, refl, replicate, get_or}
+use Rattle.std.proofs.Math.Path.{fun_ext}
+use Rattle.fin_life.specs.declared.mentions.Mention.TheVariants.{Nothing}
+use Rattle.fin_life.proofs.mentions.Mentions.nothing.Goals as goal
+
+replicated : (n t : ℕ) → get_or (replicate n Nothing) t Nothing ≡ Nothing
+replicated zero t = refl
+replicated (suc n) zero = refl
+replicated (suc n) (suc t) = replicated n t
+
+pub returns : goal.returns
+returns c = fun_ext (λ t. replicated 256 t)
