@@ -7,3 +7,4 @@ pub mod Flagged
 pub mod Walks
 pub mod Verdict
 pub mod Levels
+pub mod OneOutcome

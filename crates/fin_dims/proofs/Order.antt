@@ -38,7 +38,7 @@ module _ (p : Tie → Bool) where
   ]
   chosen_by false y ys x eb rest h = (later y ys x (rest h).0, (rest h).1)
 
-  from_filter : (xs : List Tie) (x : Tie) → Contains (filter p xs) x → Contains xs x × (p x ≡ true)
+  pub from_filter : (xs : List Tie) (x : Tie) → Contains (filter p xs) x → Contains xs x × (p x ≡ true)
   from_filter [] x h = absurd (omega (arith, h.1))
   from_filter (y ∷ ys) x h = chosen_by (p y) y ys x refl (from_filter ys x) h
 
