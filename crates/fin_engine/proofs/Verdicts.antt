@@ -4,7 +4,7 @@ use Rattle.std.specs.Prelude.{All}
 use Rattle.std.specs.List.{join_with_byte}
 use Rattle.std.proofs.lemmas.List.Elements.{All-tail}
 use Rattle.std.proofs.Math.Seq.{get_or-append_seam}
-use Rattle.std.specs.Prelude.{Ok, Err}
+use Rattle.std.specs.Prelude.{Ok, Err, Some, None, Option}
 use Rattle.fin_base.specs.declared.refusal.Fail.TheVariants.{Refused}
 use Rattle.fin_base.specs.declared.refusal.Refusal.{Refusal}
 use Rattle.fin_base.specs.declared.refusal.Rule.{Rule}
@@ -16,11 +16,21 @@ use Rattle.fin_parse.specs.declared.trees.Text.{Text}
 use Rattle.fin_parse.proofs.OneVerdict.{accepted_or_refused, one_refusal}
 use Rattle.fin_text.specs.Reading.{ReadsTensors}
 use Rattle.fin_text.specs.Text.{text_of_lines}
-use Rattle.fin_text.specs.declared.read.Given.{Given}
 use Rattle.fin_text.proofs.Cuts.{cut_at_one_place}
-use Rattle.fin_text.proofs.OneText.{one_refusal as one_tensor_refusal, read_or_refused}
+use Rattle.fin_text.proofs.OneText.{one_reading, one_refusal as one_tensor_refusal, read_or_refused}
+use Rattle.fin_engine.specs.declared.job.Job.{Job}
 use Rattle.fin_engine.specs.Cut.{IsBefore, IsCut, IsEndless}
-use Rattle.fin_engine.specs.Verdict.{Accepts, Breaks}
+use Rattle.fin_engine.specs.Inputs.{Tensors, unmatched, shapes_of, inputs_of}
+use Rattle.fin_engine.specs.Verdict.{Accepts, Breaks, BreaksLater, BreaksWhole, IsCompletion, IsJob, IsJobOf, KeepsWhole, Reads}
+use Rattle.fin_ast.specs.declared.program.Program.{Program}
+use Rattle.fin_ast.specs.declared.checked.Dims.{Dims}
+use Rattle.fin_ast.specs.Insertion.{completed_program}
+use Rattle.fin_ast.specs.Life.{life_in}
+use Rattle.fin_ast.specs.Order.{order_in}
+use Rattle.fin_ast.specs.Ties.{Shapes}
+use Rattle.fin_dims.proofs.OneOutcome.{one_inferred, one_breach as one_extent_breach, inferred_or_broken}
+use Rattle.fin_parse.proofs.OneProgram.{one_program, same_program}
+use Rattle.fin_parse.specs.Program.{StandsFor}
 
 -- a job has one program and one list of tensors
 pub same_cut : (job p q t u : List ℕ) (m n : ℕ) → IsCut job p t m → IsCut job q u n → (p ≡ q) × (t ≡ u) × (m ≡ n)
@@ -62,6 +72,75 @@ not_accepted : (job p q t u : List ℕ) (m n : ℕ) (xs ys : List Token) (trees 
     → IsAccepted p xs trees → Verdict q ys n (Err (Refused r)) → ⊥
 not_accepted job p q t u m n xs ys trees r c d h k a v = accepted_or_refused p xs m trees r a (same_verdict job p q t u m n xs ys r c d h k v)
 
+-- ---- a program with its tensors
+
+-- the program and the tensors of a job are one
+same_program_read : (job : List ℕ) (p q : Program) (g h : Tensors) → Reads job p g → Reads job q h → p ≡ q
+same_program_read job p q g h a b =
+    let cuts = same_cut job a.body b.body a.tensors b.tensors a.last b.last a.cut b.cut in
+    let tokens = same_tokens job a.body b.body a.tensors b.tensors a.last b.last a.tokens b.tokens a.cut b.cut a.lexed b.lexed in
+    let there : StandsFor a.body a.tokens a.last q = subst (λ x. StandsFor x a.tokens a.last q) (sym cuts.0) (subst (λ x. StandsFor b.body x a.last q) (sym tokens) (subst (λ x. StandsFor b.body b.tokens x q) (sym cuts.2) b.stands)) in
+    one_program a.body a.tokens a.last q p there a.stands
+
+same_tensors_read : (job : List ℕ) (p q : Program) (g h : Tensors) → Reads job p g → Reads job q h → g ≡ h
+same_tensors_read job p q g h a b =
+    let cuts = same_cut job a.body b.body a.tensors b.tensors a.last b.last a.cut b.cut in
+    let there : ReadsTensors a.tensors (a.last + 1) (Ok h) = subst (λ x. ReadsTensors x (a.last + 1) (Ok h)) (sym cuts.1) (subst (λ x. ReadsTensors b.tensors (x + 1) (Ok h)) (sym cuts.2) b.read) in
+    one_reading a.tensors (a.last + 1) g h a.read there
+
+same_whole : (p v w : Program) → IsCompletion p v → IsCompletion p w → v ≡ w
+same_whole p v w h k = same_program v w (h.headers ∙ sym k.headers) (h.body ∙ sym k.body) (h.last ∙ sym k.last)
+
+none_or_some : (o : Option Refusal) (r : Refusal) → o ≡ None → o ≡ Some r → ⊥
+none_or_some o r h k = cc
+
+one_some : (o : Option Refusal) (r s : Refusal) → o ≡ Some r → o ≡ Some s → r ≡ s
+one_some o r s h k = let e : Some r ≡ Some s = sym h ∙ k in cc
+
+one_whole_breach : (w : Program) (shapes : Shapes) (r s : Refusal) → BreaksWhole w shapes r → BreaksWhole w shapes s → r ≡ s
+one_whole_breach w shapes r s (BreaksWhole.life h) (BreaksWhole.life k) = one_some (life_in w) r s h k
+one_whole_breach w shapes r s (BreaksWhole.life h) (BreaksWhole.extents k l) = absurd (none_or_some (life_in w) r k h)
+one_whole_breach w shapes r s (BreaksWhole.life h) (BreaksWhole.order d k i l) = absurd (none_or_some (life_in w) r k h)
+one_whole_breach w shapes r s (BreaksWhole.extents h b) (BreaksWhole.life k) = absurd (none_or_some (life_in w) s h k)
+one_whole_breach w shapes r s (BreaksWhole.extents h b) (BreaksWhole.extents k l) = one_extent_breach w shapes r s b l
+one_whole_breach w shapes r s (BreaksWhole.extents h b) (BreaksWhole.order d k i l) = absurd (inferred_or_broken w shapes d r i b)
+one_whole_breach w shapes r s (BreaksWhole.order d h i b) (BreaksWhole.life k) = absurd (none_or_some (life_in w) s h k)
+one_whole_breach w shapes r s (BreaksWhole.order d h i b) (BreaksWhole.extents k l) = absurd (inferred_or_broken w shapes d s i l)
+one_whole_breach w shapes r s (BreaksWhole.order d h i b) (BreaksWhole.order e k j l) = one_some (order_in w) r s b l
+
+kept_or_broken : (w : Program) (shapes : Shapes) (d : Dims) (r : Refusal) → KeepsWhole w shapes d → BreaksWhole w shapes r → ⊥
+kept_or_broken w shapes d r h (BreaksWhole.life k) = none_or_some (life_in w) r h.life k
+kept_or_broken w shapes d r h (BreaksWhole.extents k b) = inferred_or_broken w shapes d r h.extents b
+kept_or_broken w shapes d r h (BreaksWhole.order e k i b) = none_or_some (order_in w) r h.order b
+
+one_later_breach : (p : Program) (g : Tensors) (r s : Refusal) → BreaksLater p g r → BreaksLater p g s → r ≡ s
+one_later_breach p g r s (BreaksLater.matching h) (BreaksLater.matching k) = one_some (unmatched p.headers g) r s h k
+one_later_breach p g r s (BreaksLater.matching h) (BreaksLater.behind w k c b) = absurd (none_or_some (unmatched p.headers g) r k h)
+one_later_breach p g r s (BreaksLater.behind w h c b) (BreaksLater.matching k) = absurd (none_or_some (unmatched p.headers g) s h k)
+one_later_breach p g r s (BreaksLater.behind v h c a) (BreaksLater.behind w k d b) = one_whole_breach v (shapes_of p.headers g) r s a (subst (λ x. BreaksWhole x (shapes_of p.headers g) s) (sym (same_whole p v w c d)) b)
+
+is_job_or_broken : (p : Program) (g : Tensors) (j : Job) (r : Refusal) → IsJobOf p g j → BreaksLater p g r → ⊥
+is_job_or_broken p g j r h (BreaksLater.matching k) = none_or_some (unmatched p.headers g) r h.matched k
+is_job_or_broken p g j r h (BreaksLater.behind w k c b) = kept_or_broken j.checked.program (shapes_of p.headers g) j.checked.dims r h.kept (subst (λ x. BreaksWhole x (shapes_of p.headers g) r) (sym (same_whole p j.checked.program w h.completed c)) b)
+
+same_later : (job : List ℕ) (p q : Program) (g h : Tensors) (r : Refusal) → Reads job p g → Reads job q h → BreaksLater q h r → BreaksLater p g r
+same_later job p q g h r a b breaks =
+    subst (λ x. BreaksLater x g r) (sym (same_program_read job p q g h a b)) (subst (λ x. BreaksLater q x r) (sym (same_tensors_read job p q g h a b)) breaks)
+
+-- ---- a text that is read breaks none of the rules before
+
+read_not_endless : (job : List ℕ) (p : Program) (g : Tensors) → Reads job p g → IsEndless job → ⊥
+read_not_endless job p g a h = no_end job a.body a.tensors a.last h a.cut
+
+read_not_lexed : (job q u : List ℕ) (n line : ℕ) (p : Program) (g : Tensors) → Reads job p g → IsCut job q u n → BreaksAt q 1 line → ⊥
+read_not_lexed job q u n line p g a d k = not_lexed job a.body q a.tensors u a.last n line a.tokens a.cut d a.lexed k
+
+read_not_refused : (job q u : List ℕ) (n : ℕ) (ys : List Token) (s : Refusal) (p : Program) (g : Tensors) → Reads job p g → IsCut job q u n → AreTokens q 1 ys → Verdict q ys n (Err (Refused s)) → ⊥
+read_not_refused job q u n ys s p g a d k w = not_accepted job a.body q a.tensors u a.last n a.tokens ys a.stands.0 s a.cut d a.lexed k a.stands.1 w
+
+read_not_misread : (job q u : List ℕ) (n : ℕ) (s : Refusal) (p : Program) (g : Tensors) → Reads job p g → IsCut job q u n → ReadsTensors u (n + 1) (Err (Refused s)) → ⊥
+read_not_misread job q u n s p g a d w = read_or_refused a.tensors (a.last + 1) g s a.read (same_tensors job a.body q a.tensors u a.last n s a.cut d w)
+
 pub one_breach : (job : List ℕ) (rule other : Rule) (line place : ℕ) → Breaks job rule line → Breaks job other place → (rule ≡ other) × (line ≡ place)
 one_breach job rule other line place (Breaks.endless h) (Breaks.endless k) = (refl, refl)
 one_breach job rule other line place (Breaks.endless h) (Breaks.no_token p t m at c k) = absurd (no_end job p t m h c)
@@ -84,9 +163,21 @@ one_breach job rule other line place (Breaks.no_tensors p t m xs trees r c h a v
 one_breach job rule other line place (Breaks.no_tensors p t m xs trees r c h a v) (Breaks.no_tensors q u n ys others s d k b w) =
     let same : r ≡ s = one_tensor_refusal t (m + 1) r s v (same_tensors job p q t u m n s c d w) in
     (ap (λ x. x.rule) same, ap (λ x. x.line) same)
+one_breach job rule other line place (Breaks.endless h) (Breaks.no_job p g r a b) = absurd (read_not_endless job p g a h)
+one_breach job rule other line place (Breaks.no_token q u n at d k) (Breaks.no_job p g r a b) = absurd (read_not_lexed job q u n at p g a d k)
+one_breach job rule other line place (Breaks.no_program q u n ys s d k w) (Breaks.no_job p g r a b) = absurd (read_not_refused job q u n ys s p g a d k w)
+one_breach job rule other line place (Breaks.no_tensors q u n ys trees s d k c w) (Breaks.no_job p g r a b) = absurd (read_not_misread job q u n s p g a d w)
+one_breach job rule other line place (Breaks.no_job p g r a b) (Breaks.endless h) = absurd (read_not_endless job p g a h)
+one_breach job rule other line place (Breaks.no_job p g r a b) (Breaks.no_token q u n at d k) = absurd (read_not_lexed job q u n at p g a d k)
+one_breach job rule other line place (Breaks.no_job p g r a b) (Breaks.no_program q u n ys s d k w) = absurd (read_not_refused job q u n ys s p g a d k w)
+one_breach job rule other line place (Breaks.no_job p g r a b) (Breaks.no_tensors q u n ys trees s d k c w) = absurd (read_not_misread job q u n s p g a d w)
+one_breach job rule other line place (Breaks.no_job p g r a b) (Breaks.no_job q h s d e) =
+    let same : r ≡ s = one_later_breach p g r s b (same_later job p q g h s a d e) in
+    (ap (λ x. x.rule) same, ap (λ x. x.line) same)
 
 pub accepted_or_not : (job : List ℕ) (rule : Rule) (line : ℕ) → Accepts job → Breaks job rule line → ⊥
-accepted_or_not job rule line a (Breaks.endless h) = no_end job a.program a.tensors a.last h a.cut
-accepted_or_not job rule line a (Breaks.no_token p t m at c h) = not_lexed job a.program p a.tensors t a.last m at a.tokens a.cut c a.lexed h
-accepted_or_not job rule line a (Breaks.no_program p t m xs r c h v) = not_accepted job a.program p a.tensors t a.last m a.tokens xs a.trees r a.cut c a.lexed h a.accepted v
-accepted_or_not job rule line a (Breaks.no_tensors p t m xs trees r c h b v) = read_or_refused a.tensors (a.last + 1) a.given r a.read (same_tensors job a.program p a.tensors t a.last m r a.cut c v)
+accepted_or_not job rule line (j, (p, g, a, is)) (Breaks.endless h) = read_not_endless job p g a h
+accepted_or_not job rule line (j, (p, g, a, is)) (Breaks.no_token q u n at d k) = read_not_lexed job q u n at p g a d k
+accepted_or_not job rule line (j, (p, g, a, is)) (Breaks.no_program q u n ys s d k w) = read_not_refused job q u n ys s p g a d k w
+accepted_or_not job rule line (j, (p, g, a, is)) (Breaks.no_tensors q u n ys trees s d k c w) = read_not_misread job q u n s p g a d w
+accepted_or_not job rule line (j, (p, g, a, is)) (Breaks.no_job q h r b breaks) = is_job_or_broken p g j r is (same_later job p q g h r a b breaks)

@@ -1,2 +1,3 @@
 pub mod Cut
+pub mod Inputs
 pub mod Verdict

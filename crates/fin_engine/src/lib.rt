@@ -1,11 +1,17 @@
 //! From the bytes of a job to its verdict.
 //!
-//! `check` accepts exactly the jobs that break no rule so far, and refuses any other by its first breach, with its line: no
-//! line is `%%` (`J2`); bytes of the program begin no token (`S1`); its tokens are no text of the grammar, or nest too deep
-//! (`S2`, `S3`); a name or its indices (`N1` to `N3`); a format or a fill (`F1`, `F2`). A job has one verdict.
+//! `check` gives the job of exactly the texts that break no rule, and refuses any other by its first breach, with its line:
+//! no line is `%%` (`J2`); bytes of the program begin no token (`S1`); its tokens are no text of the grammar, or nest too
+//! deep (`S2`, `S3`); a name or its indices (`N1` to `N3`); a format or a fill (`F1`, `F2`); the text of tensors (`X1` to
+//! `X5`), and these against the headers (`X6`); then, of the program after insertion of freeze and thaw, the life of tensors
+//! (`L1` to `L7`), extents (`M4` and `M5`, `M1`, `M2`, `M3`, `B1`, `B3`), and the order of updates (`U1`, `U2`). A text has
+//! one verdict, and an accepted one is that of one job.
 #![tactic(auto)]
 
 mod cut;
+mod inputs;
+mod job;
 mod verdict;
 
+pub use job::Job;
 pub use verdict::check;

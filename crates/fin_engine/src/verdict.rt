@@ -1,20 +1,28 @@
 //! The verdict on a job.
-ghost use Rattle.std.specs.Prelude.{◌≤◌, length};
-ghost use Rattle.fin_engine.specs.Verdict.{Checks};
+ghost use Rattle.std.specs.Prelude.{◌≡◌, ◌≤◌, length};
+ghost use Rattle.fin_engine.specs.Verdict.{Checks, ChecksProgram, ChecksWhole};
 
 use crate::cut::cut;
+use crate::inputs::{inputs_of, shapes_of, unmatched};
+use crate::job::Job;
+use fin_ast::{Checked, Dims, Program, Ways};
 use fin_base::{Fail, Refusal, Rule};
+use fin_dims::infer;
 use fin_lex::lex;
-use fin_parse::read_trees;
-use fin_text::read_tensors;
+use fin_life::{check_life, check_order, complete};
+use fin_parse::parse;
+use fin_tensor::{Name, Nums, Seq};
+use fin_text::{Given, read_tensors};
+use indexmap::IndexMap;
 use std::alloc::Global;
 
-/// Checks a job, rule by rule, in the order of the rules.
+/// The job of a text that breaks no rule.
 ///
 /// # Errors
-/// The first rule that the job breaks, with its line; and want of memory.
-pub fn check(alloc: Global, text: &[u8]) -> Result<(), Fail>
-    requires { length text.now ≤ 16777216 }
+/// The first rule that the text breaks, with its line, in the order of the rules (`docs/LANGUAGE.md`); and want of
+/// memory.
+pub fn check(alloc: Global, text: &[u8]) -> Result<Job, Fail>
+    requires short { length text.now ≤ 16777216 }
     ensures verdict { Checks text.now result }
 {
     let Some(parts) = cut(text) else {
@@ -24,7 +32,50 @@ pub fn check(alloc: Global, text: &[u8]) -> Result<(), Fail>
         }));
     };
     let tokens = lex(alloc, parts.program, 1)?;
-    read_trees(alloc, parts.program, tokens.as_slice(), parts.last)?;
-    read_tensors(alloc, parts.tensors, parts.last + 1)?;
-    Ok(())
+    let program = parse(alloc, parts.program, tokens.as_slice(), parts.last)?;
+    let given = read_tensors(alloc, parts.tensors, parts.last + 1)?;
+    check_program(alloc, program, &given)
+}
+
+/// The job of a program with its tensors.
+fn check_program(
+    alloc: Global,
+    program: Program,
+    given: &IndexMap<Name, Given>,
+) -> Result<Job, Fail>
+    ensures verdict { ChecksProgram program given.now.entries result }
+{
+    if let Some(refusal) = unmatched(program.headers.as_slice(), given) {
+        return Err(Fail::Refused(refusal));
+    }
+    let inputs = inputs_of(alloc, program.headers.as_slice(), given)?;
+    let shapes = shapes_of(alloc, program.headers.as_slice(), given)?;
+    let whole = complete(alloc, program)?;
+    let dims = check_whole(alloc, &whole, shapes.as_slice())?;
+    Ok(Job {
+        checked: Checked {
+            program: whole,
+            dims,
+            ways: Ways {
+                loops: Seq::new(alloc),
+            },
+        },
+        inputs,
+    })
+}
+
+/// The extents of a program after insertion, which breaks no rule on the life of tensors, on extents, and on the order of
+/// updates.
+fn check_whole(alloc: Global, whole: &Program, shapes: &[Option<Nums>]) -> Result<Dims, Fail>
+    requires shapes { length shapes.now ≡ length whole.now.headers }
+    ensures verdict { ChecksWhole whole.now shapes.now result }
+{
+    if let Err(refusal) = check_life(whole) {
+        return Err(Fail::Refused(refusal));
+    }
+    let dims = infer(alloc, whole, shapes)?;
+    if let Err(refusal) = check_order(whole) {
+        return Err(Fail::Refused(refusal));
+    }
+    Ok(dims)
 }

@@ -1,0 +1,25 @@
+use Rattle.std.proofs.Common.{rules, ◌≡◌, ◌∙◌, ap, sym, List, subst}
+use Rattle.std.specs.Prelude.{Err, Option, None}
+use Rattle.fin_base.specs.declared.refusal.Fail.{Fail}
+use Rattle.fin_base.specs.declared.refusal.Fail.TheVariants.{Memory, Refused}
+use Rattle.fin_ast.specs.declared.program.Program.{Program}
+use Rattle.fin_ast.specs.Ties.{Shapes}
+use Rattle.fin_engine.specs.Inputs.{Tensors, unmatched, shapes_of}
+use Rattle.fin_engine.specs.Verdict.{BreaksLater, ChecksProgram, ChecksWhole, IsCompletion}
+use Rattle.fin_engine.proofs.verdict.check_program.Goals as goal
+
+-- a program that breaks a rule after insertion
+later : (program whole : Program) (given : Tensors) (shapes : Shapes) (fail : Fail) → unmatched program.headers given ≡ None → IsCompletion program whole → shapes ≡ shapes_of program.headers given → ChecksWhole whole shapes (Err fail) → ChecksProgram program given (Err fail)
+later program whole given shapes (Refused r) matched completed is breaks = BreaksLater.behind whole matched completed (subst (λ s. ChecksWhole whole s (Err (Refused r))) is breaks)
+later program whole given shapes (Memory e) matched completed is breaks = tt
+
+pub returns-in_err-dims : goal.returns-in_err-dims
+returns-in_err-dims c =
+    let fail = c.in_err-dims.field-0.0 in
+    let given = c.args.given.now.entries in
+    let whole = c.in_ok-whole.whole in
+    let is : c.from_residual-in_err-dims.result ≡ Err fail = search rules in
+    let matched : unmatched c.args.program.headers given ≡ None = ap (λ hs. unmatched hs given) (sym c.as_slice.ensures) ∙ sym c.unmatched.ensures.first ∙ c.in_default.is in
+    let completed : IsCompletion c.args.program whole = record { headers = c.in_ok-whole.ensures.headers; body = c.in_ok-whole.ensures.body; last = c.in_ok-whole.ensures.last } in
+    let shapes = c.as_slice-4.ensures.value ∙ c.in_ok-shapes.ensures.value ∙ ap (λ hs. shapes_of hs given) c.as_slice-3.ensures in
+    record { verdict = subst (λ r. ChecksProgram c.args.program given r) (sym is) (later c.args.program whole given c.as_slice-4.result.now fail matched completed shapes c.in_err-dims.ensures.verdict) }
