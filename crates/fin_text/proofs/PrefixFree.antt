@@ -1,17 +1,14 @@
 -- No text of a tensor begins with that of another.
-use Rattle.std.proofs.Common.{◌≡◌, ◌≢◌, ◌∙◌, ℕ, zero, suc, nat_lt, ◌+◌, ◌^◌, ◌<◌, ◌≤◌, ℤ, List, [], ◌∷◌, ◌++◌, length, length-append, codes, true, false, refl, sym, ap, ap₂, subst, append_assoc, arith}
+use Rattle.std.proofs.Common.{◌≡◌, ◌≢◌, ◌∙◌, ℕ, suc, nat_lt, ◌+◌, ◌≤◌, ℤ, List, [], ◌∷◌, ◌++◌, length, length-append, codes, true, false, refl, sym, ap, ap₂, subst, append_assoc, arith}
 use Rattle.std.specs.Prelude.{All, slice_index}
 use Rattle.std.specs.List.{list_all}
-use Rattle.std.proofs.lemmas.List.{append_cancel_left, append-nil}
+use Rattle.std.proofs.lemmas.List.{append_cancel_left}
 use Rattle.std.proofs.lemmas.List.Elements.{All-nil, All-cons, All-head, All-tail, All-append, All-weaker}
-use Rattle.fin_base.specs.Words.{IsWord}
 use Rattle.fin_tensor.specs.Levels.{IsStored, positions}
-use Rattle.fin_tensor.specs.Lines.{AreLines}
 use Rattle.fin_tensor.specs.Placement.{is_dense}
 use Rattle.fin_tensor.specs.declared.format.Level.{Level}
 use Rattle.fin_tensor.specs.declared.format.Level.TheVariants as level
 use Rattle.fin_tensor.specs.declared.part.Part.{Part}
-use Rattle.fin_tensor.specs.declared.part.Part.TheVariants as part
 use Rattle.fin_tensor.specs.declared.storage.Storage.{Storage}
 use Rattle.fin_tensor.proofs.ByLines.{valid_by_lines}
 use Rattle.fin_tensor.proofs.Same.{same_storage}
