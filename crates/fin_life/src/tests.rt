@@ -110,7 +110,8 @@ fn one(alloc: Global, statement: Stmt) -> Result<Items<Stmt>, AllocError>
 fn two(alloc: Global, first: Stmt, second: Stmt) -> Result<Items<Stmt>, AllocError>
     ensures { IfOk result (λ ss. depth_of_all ss ≡ max (depth_of first) (depth_of second)) }
 {
-    let mut body = one(alloc, first)?;
+    let mut body = Items::new(alloc);
+    body.push(first)?;
     body.push(second)?;
     Ok(body)
 }
@@ -158,30 +159,122 @@ fn place(refusal: Option<Refusal>) -> Option<(Rule, u32)> {
     refusal.map(|refusal| (refusal.rule, refusal.line))
 }
 
+// t0 .= 0 for i { t0[i] += t0[i] }
+fn own_read(alloc: Global) -> Result<Items<Stmt>, AllocError> {
+    let value = read(alloc, 0, &[0], 3)?;
+    let own = update(alloc, &[0], value, 3)?;
+    let body = one(alloc, own)?;
+    two(alloc, declare(2), each(0, body, 3))
+}
+
+// t0 .= 0 for i { freeze t0 }
+fn inner_freeze(alloc: Global) -> Result<Items<Stmt>, AllocError> {
+    let body = one(alloc, freeze(3))?;
+    two(alloc, declare(2), each(0, body, 4))
+}
+
+// for i { t0 .= 0 } freeze t0
+fn inner_declaration(alloc: Global) -> Result<Items<Stmt>, AllocError> {
+    let body = one(alloc, declare(2))?;
+    two(alloc, each(0, body, 2), freeze(3))
+}
+
+// t0 .= 0 freeze t0 freeze t0
+fn two_freezes(alloc: Global) -> Result<Items<Stmt>, AllocError> {
+    let mut body = two(alloc, declare(2), freeze(3))?;
+    body.push(freeze(4))?;
+    Ok(body)
+}
+
+// t0 .= 0 for i { t0[i] += 1 } freeze t0 for j { t0[j] += 1 }
+fn later_update(alloc: Global) -> Result<Items<Stmt>, AllocError> {
+    let first = fill(alloc, 0, 3)?;
+    let mut body = two(alloc, declare(2), first)?;
+    body.push(freeze(4))?;
+    body.push(fill(alloc, 1, 5)?)?;
+    Ok(body)
+}
+
+fn update_alone(alloc: Global) -> Result<Items<Stmt>, AllocError> {
+    let update = fill(alloc, 0, 2)?;
+    one(alloc, update)
+}
+
+/// Programs of a dense output, t0.
+fn life_row(alloc: Global, row: usize) -> Result<Items<Stmt>, AllocError> {
+    match row {
+        0 => Ok(Items::new(alloc)),
+        1 => update_alone(alloc),
+        2 => own_read(alloc),
+        3 => two(alloc, declare(2), declare(3)),
+        4 => two_freezes(alloc),
+        5 => one(alloc, thaw(2)),
+        6 => inner_freeze(alloc),
+        7 => inner_declaration(alloc),
+        _ => later_update(alloc),
+    }
+}
+
 #[test]
 fn lives(rt: HostRuntime) -> Result<(), Fail> {
-    let alloc = rt.alloc();
-    assert_eq!(rt; life(&rt, alloc, &[])?, Some((Rule::L7, 1)));
-    assert_eq!(rt; life(&rt, alloc, &[fill(alloc, 0, 2)?])?, Some((Rule::L1, 2)));
-    let own = update(alloc, &[0], read(alloc, 0, &[0], 3)?, 3)?;
-    let own = each(0, one(alloc, own)?, 3);
-    assert_eq!(rt; life(&rt, alloc, &[declare(2), own])?, Some((Rule::L2, 3)));
-    let again = [declare(2), declare(3)];
-    assert_eq!(rt; life(&rt, alloc, &again)?, Some((Rule::L3, 3)));
-    let frozen = [declare(2), freeze(3), freeze(4)];
-    assert_eq!(rt; life(&rt, alloc, &frozen)?, Some((Rule::L4, 4)));
-    assert_eq!(rt; life(&rt, alloc, &[thaw(2)])?, Some((Rule::L5, 2)));
-    let inner = each(0, one(alloc, freeze(3))?, 4);
-    assert_eq!(rt; life(&rt, alloc, &[declare(2), inner])?, Some((Rule::L6, 4)));
-    let inner = each(0, one(alloc, declare(2))?, 2);
-    assert_eq!(rt; life(&rt, alloc, &[inner, freeze(3)])?, Some((Rule::L4, 3)));
-    let thawed = [declare(2), fill(alloc, 0, 3)?, freeze(4), fill(alloc, 1, 5)?];
-    assert_eq!(rt; life(&rt, alloc, &thawed)?, None);
+    let expected = [
+        Some((Rule::L7, 1)),
+        Some((Rule::L1, 2)),
+        Some((Rule::L2, 3)),
+        Some((Rule::L3, 3)),
+        Some((Rule::L4, 4)),
+        Some((Rule::L5, 2)),
+        Some((Rule::L6, 4)),
+        Some((Rule::L4, 3)),
+        None,
+    ];
+    for (row, place) in expected.iter().enumerate() {
+        let body = life_row(rt.alloc(), row)?;
+        let found = life(&rt, rt.alloc(), body.as_slice())?;
+        assert_eq!(rt; found, *place, "row {row}");
+    }
     Ok(())
 }
 
-/// The first breach of the rules on order, where tensor 0 has these levels, of a declaration and a statement.
-fn order(rt: &impl Abort, alloc: Global, levels: &[Level], body: &[Stmt]) -> Result<Option<(Rule, u32)>, Fail>
+// t0 .= 0 for i { for j { for k { t0[i,k] += 1 } } }
+fn inner_loops(alloc: Global) -> Result<Items<Stmt>, AllocError>
+    ensures { IfOk result (λ ss. depth_of_all ss ≡ 3) }
+{
+    let update = add(alloc, &[0, 2], 4)?;
+    let body = one(alloc, update)?;
+    let body = one(alloc, each(2, body, 4))?;
+    let body = one(alloc, each(1, body, 3))?;
+    two(alloc, declare(1), each(0, body, 2))
+}
+
+// for i { t0 .= 0 for j { for k { t0[j,k] += 1 } } }
+fn inner_order(alloc: Global) -> Result<Items<Stmt>, AllocError>
+    ensures { IfOk result (λ ss. depth_of_all ss ≡ 3) }
+{
+    let update = add(alloc, &[1, 2], 4)?;
+    let body = one(alloc, update)?;
+    let body = one(alloc, each(2, body, 4))?;
+    let body = two(alloc, declare(3), each(1, body, 4))?;
+    one(alloc, each(0, body, 2))
+}
+
+// t0 .= 0 { for i { t0[i] += 1 } for j { t0[j] += 1 } }
+fn other_loop(alloc: Global) -> Result<Items<Stmt>, AllocError>
+    ensures { IfOk result (λ ss. depth_of_all ss ≡ 1) }
+{
+    let first = fill(alloc, 0, 2)?;
+    let second = fill(alloc, 1, 3)?;
+    let body = two(alloc, first, second)?;
+    two(alloc, declare(1), block(body))
+}
+
+/// The first breach of the rules on order, where tensor 0 is an output of these levels.
+fn order(
+    rt: &impl Abort,
+    alloc: Global,
+    levels: &[Level],
+    body: &[Stmt],
+) -> Result<Option<(Rule, u32)>, Fail>
     requires { depth_of_all body.now ≤ 16 }
 {
     let headers = [header(rt, alloc, Kind::Output, levels)?];
@@ -191,44 +284,37 @@ fn order(rt: &impl Abort, alloc: Global, levels: &[Level], body: &[Stmt]) -> Res
 #[test]
 fn orders(rt: HostRuntime) -> Result<(), Fail> {
     let alloc = rt.alloc();
-    let rows = [Level::Dense, Level::List];
-    // for i { for j { for k { t0[i,k] += 1 } } }
-    let inner = each(2, one(alloc, add(alloc, &[0, 2], 4)?)?, 4);
-    let body = each(0, one(alloc, each(1, one(alloc, inner)?, 3))?, 2);
-    let body = two(alloc, declare(1), body)?;
-    assert_eq!(rt; order(&rt, alloc, &rows, body.as_slice())?, Some((Rule::U1, 4)));
-    assert_eq!(rt; order(&rt, alloc, &[Level::Dense, Level::Dict], body.as_slice())?, None);
-    // for i { t0 .= 0 for j { for k { t0[j,k] += 1 } } }
-    let inner = each(2, one(alloc, add(alloc, &[1, 2], 4)?)?, 4);
-    let body = two(alloc, declare(3), each(1, one(alloc, inner)?, 4))?;
-    let body = one(alloc, each(0, body, 2))?;
-    assert_eq!(rt; order(&rt, alloc, &rows, body.as_slice())?, None);
-    // t0 .= 0 { for i { t0[i] += 1 } for j { t0[j] += 1 } }
-    let body = two(alloc, fill(alloc, 0, 2)?, fill(alloc, 1, 3)?)?;
-    let body = two(alloc, declare(1), block(body))?;
-    assert_eq!(rt; order(&rt, alloc, &[Level::Dense], body.as_slice())?, None);
-    assert_eq!(rt; order(&rt, alloc, &[Level::List], body.as_slice())?, Some((Rule::U2, 3)));
+    let body = inner_loops(alloc)?;
+    let list = order(&rt, alloc, &[Level::Dense, Level::List], body.as_slice())?;
+    assert_eq!(rt; list, Some((Rule::U1, 4)));
+    let dict = order(&rt, alloc, &[Level::Dense, Level::Dict], body.as_slice())?;
+    assert_eq!(rt; dict, None);
     Ok(())
 }
 
-/// A dense output that is declared.
-fn program(rt: &impl Abort, alloc: Global) -> Result<Program, Fail> {
-    let mut headers = Seq::new(alloc);
-    headers.push(header(rt, alloc, Kind::Output, &[Level::Dense])?)?;
-    let body = one(alloc, declare(2))?;
-    Ok(Program {
-        headers,
-        body,
-        last: 3,
-    })
+#[test]
+fn later_orders(rt: HostRuntime) -> Result<(), Fail> {
+    let alloc = rt.alloc();
+    let body = inner_order(alloc)?;
+    let list = order(&rt, alloc, &[Level::Dense, Level::List], body.as_slice())?;
+    assert_eq!(rt; list, None);
+    let body = other_loop(alloc)?;
+    let list = order(&rt, alloc, &[Level::List], body.as_slice())?;
+    assert_eq!(rt; list, Some((Rule::U2, 3)));
+    Ok(())
+}
+
+fn empty(alloc: Global) -> Program {
+    Program {
+        headers: Seq::new(alloc),
+        body: Items::new(alloc),
+        last: 1,
+    }
 }
 
 #[test]
 fn calls(rt: HostRuntime) -> Result<(), Fail> {
-    let program = program(&rt, rt.alloc())?;
-    assert_eq!(rt; place(check_life(&program).err()), Some((Rule::L7, 1)));
-    let whole = complete(rt.alloc(), program)?;
-    assert_eq!(rt; whole.body.as_slice().len(), 2);
+    let whole = complete(rt.alloc(), empty(rt.alloc()))?;
     match check_life(&whole) {
         Ok(()) => assert_eq!(rt; place(check_order(&whole).err()), None),
         Err(refusal) => assert_eq!(rt; place(Some(refusal)), None),

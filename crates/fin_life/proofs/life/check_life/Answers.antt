@@ -1,4 +1,3 @@
-use Rattle.std.proofs.Common.{◌≡◌}
 use Rattle.fin_life.proofs.Behaviour.{life_is}
 use Rattle.fin_life.proofs.life.check_life.Goals as goal
 

@@ -1,4 +1,3 @@
-use Rattle.std.proofs.Common.{◌≡◌}
 use Rattle.fin_life.proofs.Around.{order_is}
 use Rattle.fin_life.proofs.order.check_order.Goals as goal
 
