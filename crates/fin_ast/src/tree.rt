@@ -15,7 +15,7 @@ pub struct Index {
 }
 
 /// An expression.
-#[derive(Debug, Drop)]
+#[derive(Debug)]
 pub enum Expr {
     Num(i64),
     Var {
@@ -33,6 +33,28 @@ pub enum Expr {
         left: Boxed<Expr>,
         right: Boxed<Expr>,
     },
+}
+
+// A sum may have millions of terms, and groups to the left: a loop and no recursion there.
+impl Drop for Expr {
+    fn drop(mut self) {
+        loop {
+            match self {
+                Expr::Num(_) => return,
+                Expr::Var { var: _, line: _ } => return,
+                Expr::Read {
+                    tensor: _,
+                    at: _at,
+                    line: _,
+                } => return,
+                Expr::Neg(inner) => self = inner.into_inner(),
+                Expr::Two { op: _, left, right } => {
+                    let _right = right.into_inner();
+                    self = left.into_inner();
+                }
+            }
+        }
+    }
 }
 
 /// A statement. Its line is that where it begins; `last` is the line of its closing brace.

@@ -20,7 +20,7 @@ use Rattle.fin_ast.specs.Modes.{is_input_at, around, before_body, last_mode, mod
 use Rattle.fin_ast.specs.Life.{is_update, is_read, is_declared, breach_at, first_breach, life_in}
 use Rattle.fin_ast.specs.Insertion.{leads}
 use Rattle.fin_ast.specs.Order.{loops_since, loops_at, first_update, ordered_levels, order_breach, order_at, order_in}
-use Rattle.fin_life.specs.Trails.{program_order}
+use Rattle.fin_life.specs.Trails.{order_of}
 use Rattle.fin_life.proofs.Trailed.{loops_of, loops_around, tracks_of, carried_at, carried_is}
 
 none_left : {A : Type 0} (a b : Option A) → option_or a b ≡ None → a ≡ None
@@ -310,5 +310,5 @@ module _ (hs : List Header) where
       ∙ ap (option_or (first_breach (order_at hs) b)) (mark_is m b s)
 
 -- the order of updates of a program whose tensors are used as they may be is what is carried along it
-pub order_is : (p : Program) → life_in p ≡ None → program_order p ≡ order_in p
+pub order_is : (p : Program) → life_in p ≡ None → order_of p.headers p.body ≡ order_in p
 order_is p life = carried_is p.headers p.body ∙ text_is p.headers (text_of_all p.body []) (none_left (first_breach (breach_at p.headers) (text_of_all p.body [])) _ life)

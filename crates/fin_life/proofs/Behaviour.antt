@@ -12,7 +12,7 @@ use Rattle.fin_ast.specs.declared.tree.Stmt.TheOpen.{Stmt-F}
 use Rattle.fin_ast.specs.Text.{Opens, Reads, Updates, Text, Writing, expr_text, text_of_expr, in_a_row, body_text, stmt_text, text_of, text_of_all}
 use Rattle.fin_ast.specs.Modes.{around, before_body, last_mode, mode_at_start, mode_before}
 use Rattle.fin_ast.specs.Life.{breach_by, breach_at, first_breach, first_changed, first_unread, life_in}
-use Rattle.fin_life.specs.Passage.{ModeOf, Passage, expr_breach, breach_of_expr, breach_in, after_all, body_breach, stmt_passage, passage_of, passages_of, program_breach}
+use Rattle.fin_life.specs.Passage.{ModeOf, Passage, expr_breach, breach_of_expr, breach_in, after_all, body_breach, stmt_passage, passage_of, passages_of, life_of}
 
 pub or_assoc : {A : Type 0} (a b c : Option A) → option_or (option_or a b) c ≡ option_or a (option_or b c)
 or_assoc None b c = refl
@@ -166,7 +166,7 @@ module _ (hs : List Header) where
   statements_behave (s ∷ ss) = then (text_of s) (text_of_all ss) (passage_of hs s).breach (breach_in (passages_of hs ss)) (passage_of hs s).after (after_all (passages_of hs ss)) (all_stmts_behave s) (statements_behave ss)
 
 -- the verdict on the text of a program is what is carried along its statements
-pub life_is : (p : Program) → program_breach p ≡ life_in p
+pub life_is : (p : Program) → life_of p.headers p.body ≡ life_in p
 life_is p =
     let whole = statements_behave p.headers p.body in
     let text : Text = text_of_all p.body [] in

@@ -172,7 +172,7 @@ module _ (hs : List Header) where
   ended last d = in_order (put_last last) (put_at_end hs last) (last_put last) zero hs d
 
 -- insertion with the modes that are carried along is insertion by places
-pub insertion_is : (p : Program) → carried_program p ≡ completed_program p
+pub insertion_is : (p : Program) → carried_program p.headers p.body p.last ≡ completed_program p
 insertion_is p =
     let start : Draft = record { statements = []; text = [] } in
     ap (λ (r : Carried). (in_turn (put_last p.last) zero p.headers r).statements) (body_completed p.headers p.body start)

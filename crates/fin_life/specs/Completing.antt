@@ -1,7 +1,6 @@
 -- Insertion statement by statement, with the modes that are carried along.
 use Rattle.std.specs.Prelude.{ℕ, zero, List, [], ◌∷◌, ◌++◌, map}
 use Rattle.fin_ast.specs.declared.header.Header.{Header}
-use Rattle.fin_ast.specs.declared.program.Program.{Program}
 use Rattle.fin_ast.specs.declared.tree.Stmt.{Stmt, fold-Stmt}
 use Rattle.fin_ast.specs.declared.tree.Stmt.TheOpen.{Stmt-F}
 use Rattle.fin_ast.specs.declared.tree.Stmt.TheVariants.{Block, Loop, Cond, Bind, Declare, Freeze, Thaw, Update}
@@ -73,7 +72,8 @@ completing_of headers = fold-Stmt Completing (stmt_completing headers)
 abbrev pub completings_of : List Header → List Stmt → List Completing
 completings_of headers ss = map (completing_of headers) ss
 
-abbrev pub carried_program : Program → List Stmt
-carried_program p =
-    let body = carried p.headers (completings_of p.headers p.body) (record { statements = []; modes = mode_at_start p.headers }) in
-    (in_turn (put_last p.last) zero p.headers body).statements
+-- the statements of a program with these headers and statements and that line behind its text
+abbrev pub carried_program : List Header → List Stmt → ℕ → List Stmt
+carried_program headers ss last =
+    let body = carried headers (completings_of headers ss) (record { statements = []; modes = mode_at_start headers }) in
+    (in_turn (put_last last) zero headers body).statements

@@ -6,7 +6,6 @@ use Rattle.fin_base.specs.declared.refusal.Refusal.{Refusal}
 use Rattle.fin_ast.specs.declared.header.Header.{Header}
 use Rattle.fin_ast.specs.declared.mode.Mode.{Mode}
 use Rattle.fin_ast.specs.declared.mode.Mode.TheVariants.{Update, Read}
-use Rattle.fin_ast.specs.declared.program.Program.{Program}
 use Rattle.fin_ast.specs.declared.tree.Expr.{Expr, fold-Expr}
 use Rattle.fin_ast.specs.declared.tree.Expr.TheOpen.{Expr-F}
 use Rattle.fin_ast.specs.declared.tree.Stmt.{Stmt, fold-Stmt}
@@ -76,8 +75,9 @@ passage_of headers = fold-Stmt Passage (stmt_passage headers)
 abbrev pub passages_of : List Header → List Stmt → List Passage
 passages_of headers ss = map (passage_of headers) ss
 
-abbrev pub program_breach : Program → Option Refusal
-program_breach p =
-    let start = mode_at_start p.headers in
-    let body = passages_of p.headers p.body in
-    option_or (breach_in body start start) (first_unread (after_all body start) p.headers)
+-- the first breach of a program with these headers and statements
+abbrev pub life_of : List Header → List Stmt → Option Refusal
+life_of headers ss =
+    let start = mode_at_start headers in
+    let body = passages_of headers ss in
+    option_or (breach_in body start start) (first_unread (after_all body start) headers)

@@ -3,7 +3,6 @@ use Rattle.std.specs.Prelude.{ℕ, List, [], ◌∷◌, ◌++◌, length, map, d
 use Rattle.std.specs.Option.{option_or}
 use Rattle.fin_base.specs.declared.refusal.Refusal.{Refusal}
 use Rattle.fin_ast.specs.declared.header.Header.{Header}
-use Rattle.fin_ast.specs.declared.program.Program.{Program}
 use Rattle.fin_ast.specs.declared.tree.Index.{Index}
 use Rattle.fin_ast.specs.declared.tree.Stmt.{Stmt, fold-Stmt}
 use Rattle.fin_ast.specs.declared.tree.Stmt.TheOpen.{Stmt-F}
@@ -48,5 +47,6 @@ trails_of headers ss = map (trail_of headers) ss
 abbrev pub no_tracks : Tracks
 no_tracks = record { entered = λ t. 0; firsts = λ t. None }
 
-abbrev pub program_order : Program → Option Refusal
-program_order p = breach_along (trails_of p.headers p.body) [] no_tracks
+-- the first breach of a program with these headers and statements
+abbrev pub order_of : List Header → List Stmt → Option Refusal
+order_of headers ss = breach_along (trails_of headers ss) [] no_tracks

@@ -288,14 +288,19 @@ fn complete_stmt(
     }
 }
 
-/// The body of a program after insertion.
-fn completed(alloc: Global, program: &Program) -> Result<Items<Stmt>, AllocError>
-    ensures { IfOk result (λ ss. ss ≡ carried_program program.now) }
+/// The statements of a program after insertion.
+pub fn completed(
+    alloc: Global,
+    headers: &[Header],
+    body: &[Stmt],
+    last: u32,
+) -> Result<Items<Stmt>, AllocError>
+    requires { length headers.now ≤ 64 }
+    ensures { IfOk result (λ ss. ss ≡ carried_program headers.now body.now last) }
 {
-    let headers = program.headers.as_slice();
     let start = Modes::at_start(headers);
-    let mut draft = complete_all(alloc, headers, program.body.as_slice(), &start)?;
-    draft.put_at_end(headers, program.last)?;
+    let mut draft = complete_all(alloc, headers, body, &start)?;
+    draft.put_at_end(headers, last)?;
     Ok(draft.statements)
 }
 
@@ -310,7 +315,12 @@ pub fn complete(alloc: Global, program: Program) -> Result<Program, AllocError>
     ensures body { IfOk result (λ p. p.body ≡ completed_program program) }
     ensures last { IfOk result (λ p. p.last ≡ program.last) }
 {
-    let body = completed(alloc, &program)?;
+    let body = completed(
+        alloc,
+        program.headers.as_slice(),
+        program.body.as_slice(),
+        program.last,
+    )?;
     Ok(Program {
         headers: program.headers,
         body,

@@ -9,6 +9,8 @@ mod loops;
 mod mentions;
 mod modes;
 mod order;
+#[cfg(test)]
+mod tests;
 mod tracks;
 
 pub use insertion::complete;

@@ -4,7 +4,7 @@ ghost use Rattle.fin_ast.specs.Life.{life_in, breach_by, first_changed as first_
 ghost use Rattle.fin_ast.specs.declared.header.Header.{Header};
 ghost use Rattle.fin_ast.specs.Text.{Updates, Declares, Freezes, Thaws};
 ghost use Rattle.fin_life.specs.Completing.{completing_of};
-ghost use Rattle.fin_life.specs.Passage.{breach_of_expr, breach_in, body_breach, after_all, passage_of, passages_of, program_breach};
+ghost use Rattle.fin_life.specs.Passage.{breach_of_expr, breach_in, body_breach, after_all, passage_of, passages_of, life_of};
 ghost use Rattle.fin_life.specs.Table.{mode_in};
 
 use crate::breach::broken;
@@ -21,19 +21,20 @@ pub fn check_life(program: &Program) -> Result<(), Refusal>
     ensures kept { IfOk result (λ u. life_in program.now ≡ None) }
     ensures refused { IfErr result (λ r. life_in program.now ≡ Some r) }
 {
-    match breach(program) {
+    match breach(program.headers.as_slice(), program.body.as_slice()) {
         Some(refusal) => Err(refusal),
         None => Ok(()),
     }
 }
 
-fn breach(program: &Program) -> Option<Refusal>
-    ensures { result ≡ program_breach program.now }
+/// The first breach of a program with these headers and statements.
+pub fn breach(headers: &[Header], body: &[Stmt]) -> Option<Refusal>
+    requires { length headers.now ≤ 64 }
+    ensures { result ≡ life_of headers.now body.now }
 {
-    let headers = program.headers.as_slice();
     let begin = Modes::at_start(headers);
     let mut now = begin;
-    match first_breach(headers, program.body.as_slice(), &begin, &mut now) {
+    match first_breach(headers, body, &begin, &mut now) {
         Some(refusal) => Some(refusal),
         None => first_unread(headers, &now),
     }

@@ -6,7 +6,7 @@ ghost use Rattle.fin_ast.specs.Life.{life_in};
 ghost use Rattle.fin_ast.specs.Order.{order_in, is_ordered as is_ordered_of, ordered_levels as ordered_levels_of};
 ghost use Rattle.fin_life.specs.Loops.{loops_in};
 ghost use Rattle.fin_life.specs.Tracks.{tracks_in};
-ghost use Rattle.fin_life.specs.Trails.{update_breach as update_breach_of, breach_along, after_all, trail_of, trails_of, program_order};
+ghost use Rattle.fin_life.specs.Trails.{update_breach as update_breach_of, breach_along, after_all, trail_of, trails_of, order_of};
 
 use crate::loops::{Loops, is_in_order};
 use crate::tracks::Tracks;
@@ -24,23 +24,20 @@ pub fn check_order(program: &Program) -> Result<(), Refusal>
     ensures kept { IfOk result (λ u. order_in program.now ≡ None) }
     ensures refused { IfErr result (λ r. order_in program.now ≡ Some r) }
 {
-    match breach(program) {
+    match breach(program.headers.as_slice(), program.body.as_slice()) {
         Some(refusal) => Err(refusal),
         None => Ok(()),
     }
 }
 
-fn breach(program: &Program) -> Option<Refusal>
-    ensures { result ≡ program_order program.now }
+/// The first breach of a program with these headers and statements.
+pub fn breach(headers: &[Header], body: &[Stmt]) -> Option<Refusal>
+    requires { depth_of_all body.now ≤ 16 }
+    ensures { result ≡ order_of headers.now body.now }
 {
     let loops = Loops::none();
     let mut tracks = Tracks::none();
-    first_breach(
-        program.headers.as_slice(),
-        program.body.as_slice(),
-        &loops,
-        &mut tracks,
-    )
+    first_breach(headers, body, &loops, &mut tracks)
 }
 
 /// The first breach of statements, and where there is none, what is carried on.

@@ -71,7 +71,7 @@ step_line r bytes word after left more n v first w plain looked good e (Onward.s
       subst (λ l. Onward x l (n + 1) v) (sym cut.1) o,
     )
 
-opened : (l : List ℕ) (ls : List (List ℕ)) (rest : List ℕ) → text_of_lines (l ∷ ls) ++ rest ≡ l ++ 10 ∷ (text_of_lines ls ++ rest)
+pub opened : (l : List ℕ) (ls : List (List ℕ)) (rest : List ℕ) → text_of_lines (l ∷ ls) ++ rest ≡ l ++ 10 ∷ (text_of_lines ls ++ rest)
 opened l ls rest = append_assoc (l ++ 10 ∷ []) (text_of_lines ls) rest ∙ append_assoc l (10 ∷ []) (text_of_lines ls ++ rest)
 
 -- these tensors were read, and since that line this is due
@@ -103,7 +103,7 @@ pub data IsPart (l : Level) (n f : ℕ) (p : Part) : Type 0 where
   lined : (ptr xs : List ℕ) → is_dense l ≡ false → IsPtr f ptr → AreSmall xs → IsSecond l n f ptr xs → part_with l ptr xs ≡ p → ((k : ℕ) → part_lines k p ≡ part_line (codes "ptr") k ptr ∷ part_line (second_word l) k xs ∷ [])
       → All IsInWord (second_word l) → IsPart l n f p
 
-part_of : (l : Level) (n f : ℕ) (p : Part) → IsLevel l n f p → IsPart l n f p
+pub part_of : (l : Level) (n f : ℕ) (p : Part) → IsLevel l n f p → IsPart l n f p
 part_of level.Dense n f part.Dense h = dense refl refl
 part_of level.List n f (part.Keys ptr xs) h = lined ptr xs refl h.0 h.1.small h.1 refl (λ k. refl) (letters (codes "idx") refl)
 part_of level.Dict n f (part.Keys ptr xs) h = lined ptr xs refl h.0 h.1.small h.1 refl (λ k. refl) (letters (codes "idx") refl)
@@ -193,7 +193,7 @@ module _ (name : List ℕ) (s : Storage) (es : Given_list) (since : ℕ) (rest :
   format_ends [] = refl
   format_ends (l ∷ ls) = refl
 
-  format_plain : (ls : List Level) → All (λ b. b ≢ 10) (words level_word ls ++ codes " element")
+  pub format_plain : (ls : List Level) → All (λ b. b ≢ 10) (words level_word ls ++ codes " element")
   format_plain ls =
       All-append (λ b. b ≢ 10) (words level_word ls) (codes " element") (words_in_line level_word (λ l. Unit {0}) level_is_spelling ls (λ i d lt. tt))
       (All-cons (λ b. b ≢ 10) 32 (codes "element") (λ h. omega (arith, h)) (newlineless (codes "element") (letters (codes "element") refl)))

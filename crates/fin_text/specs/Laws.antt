@@ -32,3 +32,7 @@ ReadsBack = (name : List ℕ) (s : Storage) (first : ℕ) (answer : Result (List
 -- also where more follows
 abbrev pub ReadsOn : Type 0
 ReadsOn = (name : List ℕ) (s : Storage) (rest : List ℕ) (first : ℕ) (answer : Result (List (List ℕ × Given)) Fail) → IsName name → HasWords s → ReadsTensors (tensor_text name s ++ rest) first answer → IsReadFirst name s first answer
+
+-- no text of a tensor begins with that of another
+abbrev pub IsPrefixFree : Type 0
+IsPrefixFree = (name other : List ℕ) (s t : Storage) (rest : List ℕ) → IsName name → IsName other → HasWords s → HasWords t → tensor_text name s ++ rest ≡ tensor_text other t → (name ≡ other) × (s ≡ t) × (rest ≡ [])

@@ -1,5 +1,5 @@
 //! What is true of the texts of tensors.
-ghost use Rattle.fin_text.specs.Laws.{ReadsBack, ReadsOn};
+ghost use Rattle.fin_text.specs.Laws.{IsPrefixFree, ReadsBack, ReadsOn};
 
 /// Reading the text of a tensor gives that tensor, and nothing else.
 pub fn reads_back()
@@ -10,4 +10,9 @@ pub fn reads_back()
 /// refused.
 pub fn reads_on()
     ensures { ReadsOn }
+{}
+
+/// No text of a tensor begins with the text of another one.
+pub fn no_text_is_a_prefix()
+    ensures { IsPrefixFree }
 {}

@@ -18,7 +18,7 @@ mod tests;
 mod words;
 mod write;
 
-pub use laws::{reads_back, reads_on};
+pub use laws::{no_text_is_a_prefix, reads_back, reads_on};
 pub use names::{is_name, name_from};
 pub use numbers::{read_size, read_value};
 pub use read::{Given, read_tensors};

@@ -72,17 +72,27 @@ fn writes_a_vector_and_reads_its_values(rt: HostRuntime) -> Result<(), Fail> {
 }
 
 #[test]
-fn reads_and_writes_a_tensor(rt: HostRuntime) -> Result<(), Fail> {
+fn reads_and_writes_tensors_unchanged(rt: HostRuntime) -> Result<(), Fail> {
     let alloc = rt.alloc();
-    let text: &[u8] =
-        b"tensor A\nformat dense list element\nfill -1\nshape 2 3\nptr 1 0 2 3\nidx 1 0 2 1\nval 5 0 -7\nend\n";
-    let given = read_tensors(alloc, text, 4)?;
-    let mut sink = MemSink::new(alloc, 100, 16, Vec::new(alloc))?;
-    for (name, tensor) in &given {
-        assert_eq!(rt; tensor.line, 4);
-        assert!(rt; write_tensor(alloc, &mut sink, name, &tensor.storage).is_ok());
+    let texts: [&[u8]; 8] = [
+        b"tensor A\nformat dense list element\nfill -1\nshape 2 3\nptr 1 0 2 3\nidx 1 0 2 1\nval 5 0 -7\nend\n",
+        b"tensor y\nformat dense element\nfill 0\nshape 2\nval 26 18\nend\n",
+        b"tensor B\nformat dense list element\nfill 0\nshape 0 3\nptr 1 0\nidx 1\nval\nend\n",
+        b"tensor B\nformat dense list element\nfill 0\nshape 1 3\nptr 1 0 1\nidx 1 2\nval 4\nend\n",
+        b"tensor h\nformat dense element\nfill 0\nshape 3\nval 5 9 7\nend\n",
+        b"tensor h\nformat dict element\nfill 0\nshape 3\nptr 0 0 3\nidx 0 0 1 2\nval 5 9 7\nend\n",
+        b"tensor b\nformat band element\nfill 0\nshape 6\nptr 0 0 3\nstart 0 2\nval 4 0 5\nend\n",
+        b"tensor r\nformat runs element\nfill 0\nshape 6\nptr 0 0 5\nstop 0 2 3 4 5 6\nval 0 4 0 5 0\nend\n",
+    ];
+    for text in texts {
+        let given = read_tensors(alloc, text, 4)?;
+        let mut sink = MemSink::new(alloc, 200, 16, Vec::new(alloc))?;
+        for (name, tensor) in &given {
+            assert_eq!(rt; tensor.line, 4);
+            assert!(rt; write_tensor(alloc, &mut sink, name, &tensor.storage).is_ok());
+        }
+        assert_eq!(rt; sink.taken(), text);
     }
-    assert_eq!(rt; sink.taken(), text);
     Ok(())
 }
 
