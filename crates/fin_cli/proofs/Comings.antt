@@ -62,7 +62,7 @@ comes_then job Next source out (Err WriteFault) few a (failed, (due, next, h)) =
 comes_then job Next source out (Err Memory) few a h = elim h [ inl empty ↦ inl empty | inr part ↦ inr (part.0, IsDueRead.passes part.0 few a part.1, part.2) ]
 
 -- a job that breaks a rule
-pub comes_failed : (job : List ℕ) (Next : Due → Type 0) (source out : Across) (fail : Fail) (r : Result Answer Stop) → length job ≤ most → Checks {T = Unit {0}} job (Err fail) → Fails fail r
+pub comes_failed : (job : List ℕ) (Next : Due → Type 0) (source out : Across) (fail : Fail) (r : Result Answer Stop) → length job ≤ most → Checks job (Err fail) → Fails fail r
     → out.after ≡ out.before → Comes source out (IsDueRead job Next) r
 comes_failed job Next source out (fails.Refused refusal) r few breaks h same = refuses_comes refusal r source out (IsDueRead job Next) h same (IsDueRead.breaks refusal.rule refusal.line few breaks)
 comes_failed job Next source out (fails.Memory e) r few breaks h same = subst (Comes source out (IsDueRead job Next)) (sym h) (inl (nothing out same))

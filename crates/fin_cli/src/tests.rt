@@ -243,6 +243,82 @@ const BROKEN: [Case; 11] = [
     },
 ];
 
+// Jobs whose texts break no rule, and that break one on inputs, lives, extents, choices or order.
+const LATER: [Case; 14] = [
+    Case {
+        job: b"in a dense element\n%%\n",
+        err: b"refused X6 line 1\n",
+        ..REFUSED
+    },
+    Case {
+        job: b"%%\n\ntensor a\nformat element\nfill 0\nshape\nval 1\nend\n",
+        err: b"refused X6 line 3\n",
+        ..REFUSED
+    },
+    Case {
+        job: b"out y dense element shape 2\nfor i { y[i] += 1 }\n%%\n",
+        err: b"refused L1 line 2\n",
+        ..REFUSED
+    },
+    Case {
+        job: b"out y dense element shape 2\ny .= 0\nfor i { y[i] += y[i] }\n%%\n",
+        err: b"refused L2 line 3\n",
+        ..REFUSED
+    },
+    Case {
+        job: b"out y dense element shape 2\ny .= 0\nfreeze y\nfreeze y\n%%\n",
+        err: b"refused L4 line 4\n",
+        ..REFUSED
+    },
+    Case {
+        job: b"out y dense element shape 2\n%%\n",
+        err: b"refused L7 line 1\n",
+        ..REFUSED
+    },
+    Case {
+        job: b"out s element\ns .= 0\nfor i { s[] += i }\n%%\n",
+        err: b"refused M2 line 3\n",
+        ..REFUSED
+    },
+    Case {
+        job: b"out y dense element shape 3\ny .= 0\ny[3] += 1\n%%\n",
+        err: b"refused M3 line 3\n",
+        ..REFUSED
+    },
+    Case {
+        job: b"out s element\ns .= 0\nfor i in 4..4 { s[] += i }\n%%\n",
+        err: b"refused M4 line 3\n",
+        ..REFUSED
+    },
+    Case {
+        job: b"out y dense dense element shape 4097 4096\ny .= 0\n%%\n",
+        err: b"refused B1 line 1\n",
+        ..REFUSED
+    },
+    Case {
+        job: b"out y list list element shape 2 2\ny .= 0\nfor i { for j { y[j,i] += 1 } }\n%%\n",
+        err: b"refused U1 line 3\n",
+        ..REFUSED
+    },
+    Case {
+        words: &["finch", "check"],
+        job: b"%%\n",
+        out: b"ok\n",
+        ..RUN
+    },
+    Case {
+        words: &["finch", "check"],
+        job: b"out y dense element shape 2\ny .= 0\nfor i { y[i] += 1 }\nfreeze y\nfor i { y[i] += 2 }\n%%\n",
+        out: b"ok\n",
+        ..RUN
+    },
+    Case {
+        job: b"out y dense element shape 2\ny .= 0\n%%\n",
+        err: b"refused S2 line 0\n",
+        ..REFUSED
+    },
+];
+
 fn words(alloc: Global, texts: &[&str]) -> Result<Vec<String>, AllocError> {
     let mut words = Vec::new(alloc);
     for text in texts {
@@ -268,7 +344,7 @@ fn ends_as(rt: &impl Abort, alloc: Global, case: &Case) -> Result<(), Fail> {
 
 #[test]
 fn each_case_ends_as_it_is_due(rt: HostRuntime) -> Result<(), Fail> {
-    for case in CASES.iter().chain(&BROKEN) {
+    for case in CASES.iter().chain(&BROKEN).chain(&LATER) {
         ends_as(&rt, rt.alloc(), case)?;
     }
     Ok(())

@@ -1,3 +1,4 @@
 pub mod Cutting
 pub mod Strays
+pub mod OneWhole
 pub mod Verdicts

@@ -29,7 +29,8 @@ use Rattle.fin_ast.specs.Life.{life_in}
 use Rattle.fin_ast.specs.Order.{order_in}
 use Rattle.fin_ast.specs.Ties.{Shapes}
 use Rattle.fin_dims.proofs.OneOutcome.{one_inferred, one_breach as one_extent_breach, inferred_or_broken}
-use Rattle.fin_parse.proofs.OneProgram.{one_program, same_program}
+use Rattle.fin_parse.proofs.OneProgram.{one_program}
+use Rattle.fin_engine.proofs.OneWhole.{same_program}
 use Rattle.fin_parse.specs.Program.{StandsFor}
 
 -- a job has one program and one list of tensors
