@@ -13,7 +13,7 @@ use Rattle.fin_claim.specs.declared.rule.Holding.{Holding}
 use Rattle.fin_claim.specs.declared.rule.Limits.{Limits}
 use Rattle.fin_seats.specs.Counts.{total}
 use Rattle.fin_seats.proofs.Totals.{total-set, total-append, total-at, total-alone, total-le}
-use Rattle.fin_seats.proofs.Views.{each_set, each_more, each_one, was_there}
+use Rattle.fin_seats.proofs.Places.{each_set, each_more, each_one, was_there}
 use Rattle.fin_seats.proofs.Counts.{counted-opens, counted-same, counted-split, counted-join, stands-few, others-spent}
 use Rattle.fin_claim.specs.Claims.{times, once_below, is_late, is_it, standing, opening_view, spent_view, counted, new_view, joined, drawn, IsFair, IsKept, Draws, Weighs}
 use Rattle.fin_claim.proofs.Numbers.{times-some, once-below, once-more, late-some, late-le}

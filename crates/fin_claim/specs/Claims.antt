@@ -3,7 +3,7 @@ use Rattle.std.specs.Prelude.{◌≡◌, ℕ, ◌+◌, ◌^◌, ◌<◌, ◌≤�
 use mathlib.Core.Option.{some}
 use lib.ListN.{get_elem?}
 use Rattle.atomic_table.specs.Table.{State, Me, Step}
-use Rattle.fin_seats.specs.declared.Standing.{Standing}
+use Rattle.fin_seats.specs.declared.views.Standing.{Standing}
 use Rattle.fin_seats.specs.Counts as counts
 use Rattle.fin_claim.specs.declared.rule.Holding.{Holding}
 use Rattle.fin_claim.specs.declared.rule.Limits.{Limits}

@@ -2,10 +2,10 @@
 use Rattle.std.proofs.Common.{◌≡◌, ℕ, ◌+◌, ◌<◌, ◌≤◌, ◌≢◌, ◌⊎◌, List, [], ◌∷◌, ◌++◌, set, sym, refl, ap, ◌∙◌, subst, inl, inr, ⊎_elim, arith}
 use mathlib.Core.Option.{some}
 use lib.ListN.{get_elem?}
-use Rattle.fin_seats.specs.declared.Standing.{Standing}
+use Rattle.fin_seats.specs.declared.views.Standing.{Standing}
 use Rattle.fin_seats.specs.Counts.{total, opened, spent, counted, entered, united, made, stood, IsCounted}
 use Rattle.fin_seats.proofs.Totals.{total-set, total-append, total-at, total-two}
-use Rattle.fin_seats.proofs.Views.{each_set, each_more, each_one, was_there}
+use Rattle.fin_seats.proofs.Places.{each_set, each_more, each_one, was_there}
 
 module _ {V : Type 0} (of : V → Standing) (seats : ℕ) where
   abbrev count : V → ℕ
@@ -49,7 +49,7 @@ module _ {V : Type 0} (of : V → Standing) (seats : ℕ) where
       let room = r.room in
       let same : made of (set vs id w) ≡ made of vs = omega arith in
       gathers (set vs id w) (omega arith) (omega arith) (λ j u e. rw same (each_set (Fair (made of vs)) vs id w (λ i y _ d. fair_of vs r i y d)
-          (subst (λ (s : Standing). ((s.count ≡ 0) ⊎ (s.count ≡ made of vs)) × (0 < s.stands → s.seats ≡ seats) × (s.stands ≡ 0 → s.count ≡ 0)) (sym is) (fair_of vs r id v at)) j u e))
+      (subst (λ (s : Standing). ((s.count ≡ 0) ⊎ (s.count ≡ made of vs)) × (0 < s.stands → s.seats ≡ seats) × (s.stands ≡ 0 → s.count ≡ 0)) (sym is) (fair_of vs r id v at)) j u e))
 
   -- the view with the count has all of it
   pub counts-all : (vs : List V) (id : ℕ) (v : V) → IsCounted of seats vs → get_elem? vs id ≡ some v → 0 < count v → count v ≡ made of vs
@@ -79,11 +79,11 @@ module _ {V : Type 0} (of : V → Standing) (seats : ℕ) where
       let sum = r.stood_is in
       let room = r.room in
       gathers (set vs id left ++ right ∷ []) (omega arith) (omega arith)
-          (λ j u e. rw more_is (each_more (Fair (made of vs + 1)) (set vs id left) right
-          (each_set (Fair (made of vs + 1)) vs id left
-          (λ i y apart d. let two = total-two count vs id i v y apart at d in (inl (omega arith), r.alike i y d, r.unspent i y d))
-          (inr (omega arith), (λ _. ap (λ (s : Standing). s.seats) left_is ∙ alike), λ z. absurd (omega arith)))
-          (inl right_count, (λ _. ap (λ (s : Standing). s.seats) right_is ∙ alike), λ z. absurd (omega arith)) j u e))
+      (λ j u e. rw more_is (each_more (Fair (made of vs + 1)) (set vs id left) right
+      (each_set (Fair (made of vs + 1)) vs id left
+      (λ i y apart d. let two = total-two count vs id i v y apart at d in (inl (omega arith), r.alike i y d, r.unspent i y d))
+      (inr (omega arith), (λ _. ap (λ (s : Standing). s.seats) left_is ∙ alike), λ z. absurd (omega arith)))
+      (inl right_count, (λ _. ap (λ (s : Standing). s.seats) right_is ∙ alike), λ z. absurd (omega arith)) j u e))
 
   -- a join makes no seat
   pub made-join : (vs : List V) (id : ℕ) (v : V) (other : ℕ) (w both gone : V) → get_elem? vs id ≡ some v → get_elem? (set vs id both) other ≡ some w → of both ≡ united (of v) (of w) → of gone ≡ spent → made of (set (set vs id both) other gone) ≡ made of vs
@@ -110,14 +110,14 @@ module _ {V : Type 0} (of : V → Standing) (seats : ℕ) where
       let sum = r.stood_is in
       let room = r.room in
       let one : (count both ≡ 0) ⊎ (count both ≡ made of vs) = ⊎_elim
-          (λ (a : count v ≡ 0). ⊎_elim (λ (b : count w ≡ 0). inl (omega arith)) (λ (b : count w ≡ made of vs). inr (omega arith)) (r.single other w their))
-          (λ (a : count v ≡ made of vs). inr (omega arith))
-          (r.single id v at) in
+      (λ (a : count v ≡ 0). ⊎_elim (λ (b : count w ≡ 0). inl (omega arith)) (λ (b : count w ≡ made of vs). inr (omega arith)) (r.single other w their))
+      (λ (a : count v ≡ made of vs). inr (omega arith))
+      (r.single id v at) in
       gathers (set between other gone) (omega arith) (omega arith)
-          (λ j u e. rw same (each_set (Fair (made of vs)) between other gone
-          (λ i y _ d. each_set (Fair (made of vs)) vs id both (λ i y _ d. fair_of vs r i y d)
-          (one, (λ _. ap (λ (s : Standing). s.seats) both_is ∙ r.alike id v at seated), λ z. absurd (omega arith)) i y d)
-          (inl gone_count, (λ z. absurd (omega arith)), λ _. gone_count) j u e))
+      (λ j u e. rw same (each_set (Fair (made of vs)) between other gone
+      (λ i y _ d. each_set (Fair (made of vs)) vs id both (λ i y _ d. fair_of vs r i y d)
+      (one, (λ _. ap (λ (s : Standing). s.seats) both_is ∙ r.alike id v at seated), λ z. absurd (omega arith)) i y d)
+      (inl gone_count, (λ z. absurd (omega arith)), λ _. gone_count) j u e))
 
   -- a view stands for no more seats than were allowed
   pub stands-few : (vs : List V) (id : ℕ) (v : V) → IsCounted of seats vs → get_elem? vs id ≡ some v → stands v ≤ seats

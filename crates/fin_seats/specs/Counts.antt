@@ -2,7 +2,7 @@
 use Rattle.std.specs.Prelude.{◌≡◌, ℕ, ◌+◌, ◌<◌, ◌≤◌, ◌⊎◌, List, [], ◌∷◌}
 use mathlib.Core.Option.{some}
 use lib.ListN.{get_elem?}
-use Rattle.fin_seats.specs.declared.Standing.{Standing}
+use Rattle.fin_seats.specs.declared.views.Standing.{Standing}
 
 -- a number of each, added up
 abbrev pub total : {V : Type 0} → (V → ℕ) → List V → ℕ

@@ -1,7 +1,7 @@
 use Rattle.std.proofs.Common.{ap, ◌∙◌, arith}
 use Rattle.fin_claim.proofs.claims.Claims.close.Goals as goal
 use Rattle.std.specs.Prelude.{slice_index}
-use Rattle.fin_seats.proofs.Views.{word_is}
+use Rattle.fin_seats.proofs.Places.{word_is}
 use Rattle.fin_claim.specs.Claims.{once_below}
 use Rattle.fin_claim.proofs.Moves.{closes, reached, at_most}
 
