@@ -28,6 +28,10 @@ start_of w k = start_at w.table.shared.key k
 abbrev pub IsSeatOf : Words → WordSeat → Type 0
 IsSeatOf w s = (s.seat.table_id ≡ w.table.shared.table_id) × ((view s).standing.seats ≡ seats_of w)
 
+-- a seat of this table that stands for itself alone
+abbrev pub IsOwn : Words → WordSeat → Type 0
+IsOwn w s = IsSeatOf w s × ((view s).standing.stands ≡ 1)
+
 -- a seat of this table that stands for itself and has no entry
 abbrev pub IsFresh : Words → WordSeat → Type 0
 IsFresh w s = IsSeatOf w s × ((view s).standing.stands ≡ 1) × ((view s).entries ≡ [])
