@@ -1,5 +1,5 @@
 -- Taking a turn, loading, storing and giving back keep the rule.
-use Rattle.std.proofs.Common.{◌≡◌, ℕ, ◌+◌, ◌/◌, ◌<◌, ◌≤◌, ◌≢◌, eqb, ℤ, List, length, map, set, Some, None, sym, refl, ap, ◌∙◌, subst, arith, length-set, get_or-set_same, get_or-set_other}
+use Rattle.std.proofs.Common.{◌≡◌, ℕ, ◌+◌, ◌/◌, ◌<◌, ◌≢◌, eqb, ℤ, List, length, map, set, Some, None, sym, refl, ap, ◌∙◌, subst, arith, length-set, get_or-set_same, get_or-set_other}
 use Rattle.std.specs.Prelude.{slice_index}
 use Rattle.std.proofs.lemmas.Bool.{eq-eqb, ne_eqb}
 use Rattle.std.proofs.lemmas.List.{set-get_or}
@@ -12,7 +12,6 @@ use prog.Atomic.{either}
 use Rattle.atomic_table.specs.Table.{State, Me, step, keeps, Allows}
 use Rattle.atomic_table.proofs.Lists.{set_again, set_here, set_else, at_map}
 use Rattle.fin_base.specs.Words.{IsWord, apply}
-use Rattle.fin_seats.specs.declared.views.Book.{Book}
 use Rattle.fin_seats.specs.Codes.{code, decode}
 use Rattle.fin_seats.specs.Books.{gathered, start_at, noted, AreKept}
 use Rattle.fin_seats.proofs.Places.{each_set, at-lt}

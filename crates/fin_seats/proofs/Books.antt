@@ -8,7 +8,6 @@ use native.Mathlib.Decide.{ℕ_discrete}
 use mathlib.Core.Option.{some}
 use lib.ListN.{get_elem?}
 use Rattle.atomic_table.proofs.Lists.{set_again, set_here, set_else}
-use Rattle.fin_base.specs.declared.reduce.Reduce.{Reduce}
 use Rattle.fin_base.specs.declared.reduce.Reduce.TheVariants.{Put}
 use Rattle.fin_base.specs.Words.{IsWord, apply, reduced}
 use Rattle.fin_seats.specs.declared.views.Book.{Book}

@@ -1,9 +1,9 @@
 -- Steps, splits and joins keep the count of the seats.
-use Rattle.std.proofs.Common.{◌≡◌, ℕ, ◌+◌, ◌<◌, ◌≤◌, ◌≢◌, ◌⊎◌, List, [], ◌∷◌, ◌++◌, set, sym, refl, ap, ◌∙◌, subst, inl, inr, ⊎_elim, arith}
+use Rattle.std.proofs.Common.{◌≡◌, ℕ, ◌+◌, ◌<◌, ◌≤◌, ◌≢◌, ◌⊎◌, List, [], ◌∷◌, ◌++◌, set, sym, ap, ◌∙◌, subst, inl, inr, ⊎_elim, arith}
 use mathlib.Core.Option.{some}
 use lib.ListN.{get_elem?}
 use Rattle.fin_seats.specs.declared.views.Standing.{Standing}
-use Rattle.fin_seats.specs.Counts.{total, opened, spent, counted, entered, united, made, stood, IsCounted}
+use Rattle.fin_seats.specs.Counts.{opened, spent, counted, entered, united, made, stood, IsCounted}
 use Rattle.fin_seats.proofs.Totals.{total-set, total-append, total-at, total-two}
 use Rattle.fin_seats.proofs.Places.{each_set, each_more, each_one, was_there}
 
