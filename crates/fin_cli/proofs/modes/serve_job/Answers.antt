@@ -9,4 +9,4 @@ returns-in-Err-clause-comes g c = λ source.
 
 pub returns-clause-comes : goal.returns-clause-comes
 returns-clause-comes g c = λ source.
-    comes_then c.args.job.now (IsDueThen c.args.mode c.args.job.now) source _ c.serve_accepted.result c.requires.job c.in_default.ensures.verdict (c.serve_accepted.ensures.comes source)
+    comes_then c.args.job.now (IsDueThen c.args.mode c.args.job.now) source _ c.serve_accepted.result c.requires.job (c.in_default.field-0, c.in_default.ensures.verdict) (c.serve_accepted.ensures.comes source)
