@@ -244,7 +244,7 @@ const BROKEN: [Case; 11] = [
 ];
 
 // Jobs whose texts break no rule, and that break one on inputs, lives, extents, choices or order.
-const LATER: [Case; 14] = [
+const LATER: [Case; 15] = [
     Case {
         job: b"in a dense element\n%%\n",
         err: b"refused X6 line 1\n",
@@ -288,6 +288,11 @@ const LATER: [Case; 14] = [
     Case {
         job: b"out s element\ns .= 0\nfor i in 4..4 { s[] += i }\n%%\n",
         err: b"refused M4 line 3\n",
+        ..REFUSED
+    },
+    Case {
+        job: b"out s element\ns .= 0\nfor i in 0 ..\n1099511627777 { s[] += i }\n%%\n",
+        err: b"refused M5 line 4\n",
         ..REFUSED
     },
     Case {

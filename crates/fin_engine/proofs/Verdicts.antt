@@ -20,6 +20,7 @@ use Rattle.fin_text.proofs.Cuts.{cut_at_one_place}
 use Rattle.fin_text.proofs.OneText.{one_reading, one_refusal as one_tensor_refusal, read_or_refused}
 use Rattle.fin_engine.specs.declared.job.Job.{Job}
 use Rattle.fin_engine.specs.Cut.{IsBefore, IsCut, IsEndless}
+use Rattle.fin_engine.specs.Numbers.{told}
 use Rattle.fin_engine.specs.Inputs.{Tensors, unmatched, shapes_of, inputs_of}
 use Rattle.fin_engine.specs.Verdict.{Accepts, Breaks, BreaksLater, BreaksWhole, IsCompletion, IsJob, IsJobOf, KeepsWhole, Reads}
 use Rattle.fin_ast.specs.declared.program.Program.{Program}
@@ -174,7 +175,9 @@ one_breach job rule other line place (Breaks.no_job p g r a b) (Breaks.no_progra
 one_breach job rule other line place (Breaks.no_job p g r a b) (Breaks.no_tensors q u n ys trees s d k c w) = absurd (read_not_misread job q u n s p g a d w)
 one_breach job rule other line place (Breaks.no_job p g r a b) (Breaks.no_job q h s d e) =
     let same : r ≡ s = one_later_breach p g r s b (same_later job p q g h s a d e) in
-    (ap (λ x. x.rule) same, ap (λ x. x.line) same)
+    let tokens = same_tokens job a.body d.body a.tensors d.tensors a.last d.last a.tokens d.tokens a.cut d.cut a.lexed d.lexed in
+    let told_same : told a.tokens r ≡ told d.tokens s = ap (told a.tokens) same ∙ ap (λ ts. told ts s) tokens in
+    (ap (λ x. x.rule) told_same, ap (λ x. x.line) told_same)
 
 pub accepted_or_not : (job : List ℕ) (rule : Rule) (line : ℕ) → Accepts job → Breaks job rule line → ⊥
 accepted_or_not job rule line (j, (p, g, a, is)) (Breaks.endless h) = read_not_endless job p g a h

@@ -1,3 +1,4 @@
 pub mod Cut
 pub mod Inputs
+pub mod Numbers
 pub mod Verdict

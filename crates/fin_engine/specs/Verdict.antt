@@ -21,6 +21,7 @@ use Rattle.fin_text.specs.Reading.{ReadsTensors}
 use Rattle.fin_engine.specs.declared.job.Job.{Job}
 use Rattle.fin_engine.specs.Cut.{IsCut, IsEndless}
 use Rattle.fin_engine.specs.Inputs.{Tensors, unmatched, inputs_of, shapes_of}
+use Rattle.fin_engine.specs.Numbers.{told}
 
 -- the program and the tensors of a job's text, which break no rule of their texts
 pub record Reads (text : List ℕ) (program : Program) (given : Tensors) : Type 0 where
@@ -82,7 +83,7 @@ pub data Breaks (text : List ℕ) : Rule → ℕ → Type 0 where
       → AreTokens program 1 tokens → Verdict program tokens last (Err (Refused refusal)) → Breaks text refusal.rule refusal.line
   no_tensors : (program tensors : List ℕ) (last : ℕ) (tokens : List Token) (trees : Text) (refusal : Refusal) → IsCut text program tensors last
       → AreTokens program 1 tokens → IsAccepted program tokens trees → ReadsTensors tensors (last + 1) (Err (Refused refusal)) → Breaks text refusal.rule refusal.line
-  no_job : (program : Program) (given : Tensors) (refusal : Refusal) → Reads text program given → BreaksLater program given refusal → Breaks text refusal.rule refusal.line
+  no_job : (program : Program) (given : Tensors) (refusal : Refusal) (reads : Reads text program given) → BreaksLater program given refusal → Breaks text (told reads.tokens refusal).rule (told reads.tokens refusal).line
 
 -- the text is that of this job, which breaks no rule
 abbrev pub IsJob : List ℕ → Job → Type 0

@@ -11,6 +11,7 @@
 mod cut;
 mod inputs;
 mod job;
+mod numbers;
 mod verdict;
 
 pub use job::Job;

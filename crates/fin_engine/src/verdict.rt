@@ -5,6 +5,7 @@ ghost use Rattle.fin_engine.specs.Verdict.{Checks, ChecksProgram, ChecksWhole};
 use crate::cut::cut;
 use crate::inputs::{inputs_of, shapes_of, unmatched};
 use crate::job::Job;
+use crate::numbers::told;
 use fin_ast::{Checked, Dims, Program, Ways};
 use fin_base::{Fail, Refusal, Rule};
 use fin_dims::infer;
@@ -34,7 +35,8 @@ pub fn check(alloc: Global, text: &[u8]) -> Result<Job, Fail>
     let tokens = lex(alloc, parts.program, 1)?;
     let program = parse(alloc, parts.program, tokens.as_slice(), parts.last)?;
     let given = read_tensors(alloc, parts.tensors, parts.last + 1)?;
-    check_program(alloc, program, &given)
+    let verdict = check_program(alloc, program, &given);
+    told(tokens.as_slice(), verdict)
 }
 
 /// The job of a program with its tensors.

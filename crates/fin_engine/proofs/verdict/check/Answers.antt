@@ -1,4 +1,4 @@
-use Rattle.std.proofs.Common.{rules, arith, ◌≡◌, ◌≤◌, ◌+◌, List, ℕ, length, subst, sym}
+use Rattle.std.proofs.Common.{rules, arith, ◌≡◌, ◌≤◌, ◌+◌, List, ℕ, length, subst, sym, ap, ◌∙◌}
 use Rattle.std.specs.Prelude.{Result, Ok, Err}
 use Rattle.fin_base.specs.declared.refusal.Fail.{Fail}
 use Rattle.fin_base.specs.declared.refusal.Fail.TheVariants.{Memory, Refused}
@@ -10,6 +10,7 @@ use Rattle.fin_text.specs.Reading.{ReadsTensors}
 use Rattle.fin_engine.specs.declared.job.Job.{Job}
 use Rattle.fin_engine.specs.Cut.{IsCut}
 use Rattle.fin_engine.specs.Inputs.{Tensors}
+use Rattle.fin_engine.specs.Numbers.{told_result}
 use Rattle.fin_engine.specs.Verdict.{Breaks, Checks, ChecksProgram, Reads}
 use Rattle.fin_engine.proofs.Cutting.{early}
 use Rattle.fin_engine.proofs.verdict.check.Goals as goal
@@ -73,7 +74,7 @@ returns-in_err-given c =
     record { verdict = subst (λ r. Checks c.args.text.now r) (sym is) (misread c.args.text.now parts.program.now parts.tensors.now parts.last tokens program fail c.in-Some.ensures.parts c.in_ok-tokens.ensures.tokens stands c.in_err-given.ensures) }
 
 -- a text that is read
-checked : (text : List ℕ) (program : Program) (given : Tensors) (result : Result Job Fail) → Reads text program given → ChecksProgram program given result → Checks text result
+checked : (text : List ℕ) (program : Program) (given : Tensors) (result : Result Job Fail) (reads : Reads text program given) → ChecksProgram program given result → Checks text (told_result reads.tokens result)
 checked text program given (Ok job) reads is = (program, given, reads, is)
 checked text program given (Err (Refused r)) reads breaks = Breaks.no_job program given r reads breaks
 checked text program given (Err (Memory e)) reads breaks = tt
@@ -93,4 +94,5 @@ returns c =
       stands = subst (λ x. StandsFor parts.program.now x parts.last program) c.as_slice.ensures.value c.in_ok-program.ensures.parsed;
       read = c.in_ok-given.ensures;
     } in
-    record { verdict = checked c.args.text.now program c.in_ok-given.given.entries c.check_program.result reads c.check_program.ensures.verdict }
+    let is : c.told.result ≡ told_result tokens c.check_program-verdict.result = c.told.ensures.value ∙ ap (λ ts. told_result ts c.check_program-verdict.result) c.as_slice-2.ensures.value in
+    record { verdict = subst (λ r. Checks c.args.text.now r) (sym is) (checked c.args.text.now program c.in_ok-given.given.entries c.check_program-verdict.result reads c.check_program-verdict.ensures.verdict) }
