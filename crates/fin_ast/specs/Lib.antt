@@ -14,3 +14,6 @@ pub mod Modes
 pub mod Life
 pub mod Insertion
 pub mod Order
+pub mod Value
+pub mod Dense
+pub mod Shaped

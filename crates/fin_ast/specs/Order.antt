@@ -4,8 +4,7 @@ use Rattle.std.specs.Cmp.Lexicographic.{pointwise}
 use Rattle.std.specs.Option.{option_or}
 use Rattle.fin_base.specs.declared.refusal.Rule.TheVariants.{U1, U2}
 use Rattle.fin_base.specs.declared.refusal.Refusal.{Refusal}
-use Rattle.fin_tensor.specs.declared.format.Level.{Level}
-use Rattle.fin_tensor.specs.declared.format.Level.TheVariants.{Dense, List as SortedList, Runs, Band, Dict}
+use Rattle.fin_tensor.specs.Order.{ordered_levels}
 use Rattle.fin_ast.specs.declared.header.Header.{Header}
 use Rattle.fin_ast.specs.declared.program.Program.{Program}
 use Rattle.fin_ast.specs.declared.tree.Index.{Index}
@@ -15,22 +14,6 @@ use Rattle.fin_ast.specs.Choices.{levels_of}
 use Rattle.fin_ast.specs.Text.{Mark, Opens, Closes, Reads, Updates, Declares, Freezes, Thaws, Text, text_of_all}
 use Rattle.fin_ast.specs.Modes.{around}
 use Rattle.fin_ast.specs.Life.{first_breach}
-
--- a level that is filled in order
-abbrev pub is_ordered : Level → Bool
-is_ordered Dense = false
-is_ordered SortedList = true
-is_ordered Runs = true
-is_ordered Band = true
-is_ordered Dict = false
-
--- the number of levels down to the deepest ordered one, of those from n on
-abbrev pub ordered_from : ℕ → List Level → ℕ → ℕ
-ordered_from n [] deepest = deepest
-ordered_from n (l ∷ ls) deepest = ordered_from (n + 1) ls (if is_ordered l then n + 1 else deepest)
-
-abbrev pub ordered_levels : List Level → ℕ
-ordered_levels ls = ordered_from zero ls zero
 
 -- the variables of the loops that stand around a place and were entered since a tensor's declaration, outermost first
 abbrev pub loops_since : ℕ → Text → List ℕ → List ℕ

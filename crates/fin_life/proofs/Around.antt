@@ -19,7 +19,8 @@ use Rattle.fin_ast.specs.Text.{Mark, Opens, Closes, Reads, Updates, Declares, Fr
 use Rattle.fin_ast.specs.Modes.{is_input_at, around, before_body, last_mode, mode_before}
 use Rattle.fin_ast.specs.Life.{is_update, is_read, is_declared, breach_at, first_breach, life_in}
 use Rattle.fin_ast.specs.Insertion.{leads}
-use Rattle.fin_ast.specs.Order.{loops_since, loops_at, first_update, ordered_levels, order_breach, order_at, order_in}
+use Rattle.fin_tensor.specs.Order.{ordered_levels}
+use Rattle.fin_ast.specs.Order.{loops_since, loops_at, first_update, order_breach, order_at, order_in}
 use Rattle.fin_life.specs.Trails.{order_of}
 use Rattle.fin_life.proofs.Trailed.{loops_of, loops_around, tracks_of, carried_at, carried_is}
 

@@ -7,7 +7,8 @@ use Rattle.fin_ast.specs.declared.tree.Index.{Index}
 use Rattle.fin_ast.specs.declared.tree.Stmt.{Stmt, fold-Stmt}
 use Rattle.fin_ast.specs.declared.tree.Stmt.TheOpen.{Stmt-F}
 use Rattle.fin_ast.specs.Choices.{levels_of}
-use Rattle.fin_ast.specs.Order.{ordered_levels, order_breach}
+use Rattle.fin_tensor.specs.Order.{ordered_levels}
+use Rattle.fin_ast.specs.Order.{order_breach}
 use Rattle.fin_life.specs.Tracks.{Tracks, declared, updated}
 
 -- the breach of an update, from the loops around it

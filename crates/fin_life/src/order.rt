@@ -3,7 +3,8 @@ ghost use Rattle.std.specs.Prelude.{◌≡◌, ◌≤◌, ◌+◌, IfOk, IfErr, 
 ghost use Rattle.fin_ast.specs.Choices.{levels_of};
 ghost use Rattle.fin_ast.specs.Depth.{depth_of, depth_of_all};
 ghost use Rattle.fin_ast.specs.Life.{life_in};
-ghost use Rattle.fin_ast.specs.Order.{order_in, is_ordered as is_ordered_of, ordered_levels as ordered_levels_of};
+ghost use Rattle.fin_ast.specs.Order.{order_in};
+ghost use Rattle.fin_tensor.specs.Order.{ordered_levels as ordered_levels_of};
 ghost use Rattle.fin_life.specs.Loops.{loops_in};
 ghost use Rattle.fin_life.specs.Tracks.{tracks_in};
 ghost use Rattle.fin_life.specs.Trails.{update_breach as update_breach_of, breach_along, after_all, trail_of, trails_of, order_of};
@@ -12,7 +13,7 @@ use crate::loops::{Loops, is_in_order};
 use crate::tracks::Tracks;
 use fin_ast::{Header, Index, Program, Stmt};
 use fin_base::{Refusal, Rule};
-use fin_tensor::Level;
+use fin_tensor::ordered_levels;
 
 /// Whether the updates of each tensor with list, runs or band levels go along these levels.
 ///
@@ -160,26 +161,5 @@ fn ordered(headers: &[Header], tensor: u8) -> usize
     match headers.get(usize::from(tensor)) {
         Some(header) => ordered_levels(header.format.levels.as_slice()),
         None => 0,
-    }
-}
-
-fn ordered_levels(levels: &[Level]) -> usize
-    ensures { result ≡ ordered_levels_of levels.now }
-{
-    let mut deepest = 0;
-    for k in 0..levels.len() {
-        if is_ordered(levels[k]) {
-            deepest = k + 1;
-        }
-    }
-    deepest
-}
-
-fn is_ordered(level: Level) -> bool
-    ensures { result ≡ is_ordered_of level }
-{
-    match level {
-        Level::List | Level::Runs | Level::Band => true,
-        Level::Dense | Level::Dict => false,
     }
 }

@@ -1,8 +1,10 @@
+pub mod Building
 pub mod Canon
 pub mod Extents
 pub mod Levels
 pub mod Lines
 pub mod OneProof
+pub mod Order
 pub mod Placement
 pub mod Stands
 pub mod TensorFunction

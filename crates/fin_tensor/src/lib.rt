@@ -10,6 +10,7 @@ mod duplicate;
 mod format;
 mod laws;
 mod lines;
+mod order;
 mod outputs;
 mod part;
 mod placement;
@@ -27,6 +28,7 @@ pub use laws::{
     agreeing_are_equal, gives_one_place, keeps_tensors, tabulated_gives, valid_by_lines,
 };
 pub use lines::is_shape;
+pub use order::ordered_levels;
 pub use outputs::{Outputs, StoreFail};
 pub use part::Part;
 pub use placement::{has_small_dense_size, keeps_placement};
