@@ -1,7 +1,8 @@
 -- What every builder keeps, and its code as a value.
-use Rattle.std.specs.Prelude.{◌≡◌, ℕ, ◌<◌, List, IfSome, IsTrue, FitsSigned}
+use Rattle.std.specs.Prelude.{◌≡◌, ℕ, ◌<◌, List, None, IfSome, IsTrue, FitsSigned}
 use Rattle.std.specs.Int.{w64}
-use Rattle.fin_tensor.specs.TensorFunction.{IsTensor, is_in_box}
+use Rattle.fin_tensor.specs.declared.format.Format.{Format}
+use Rattle.fin_tensor.specs.TensorFunction.{TensorFunction, IsTensor, is_in_box}
 use Rattle.fin_tensor.specs.Placement.{IsPlaced}
 use Rattle.fin_tensor.specs.Lines.{IsShape}
 use Rattle.fin_tensor.specs.Order.{ordered_levels}
@@ -20,3 +21,7 @@ pub record IsBuilding (b : Building) : Type 0 where
   pub word : FitsSigned w64 b.format.fill
   pub tensor : IsTensor b.function
   pub last_is : IfSome b.last (IsLast b)
+
+-- the function is held, and nothing was updated
+abbrev pub holds : Format → TensorFunction → Building
+holds format f = record { format = format; function = f; last = None }

@@ -4,7 +4,9 @@ ghost use Rattle.std.specs.FinMap as finite;
 ghost use Rattle.fin_base.specs.Words.{apply as applied};
 ghost use Rattle.fin_tensor.specs.TensorFunction.{is_in_box, value_at};
 ghost use Rattle.fin_tensor.specs.Building.{Building, CanBuild, started, follows as follows_of, updated};
-ghost use Rattle.fin_build.specs.Builders.{IsBuilding};
+ghost use Rattle.fin_tensor.specs.Placement.{IsPlaced};
+ghost use Rattle.fin_tensor.specs.Lines.{IsShape};
+ghost use Rattle.fin_build.specs.Builders.{IsBuilding, holds};
 ghost use Rattle.fin_build.specs.Entries.{AreEntriesOf};
 
 use crate::places::{comes_before, last_of, point};
@@ -53,6 +55,23 @@ impl Builder {
             function,
             last: None,
         })
+    }
+
+    /// A builder that holds the function, in which nothing was updated.
+    pub fn holding(alloc: Global, format: Format, function: Grid) -> Builder
+        requires placed { IsPlaced format.levels format.wrap }
+        requires shape { IsShape format.levels function.shape }
+        requires fill { function.fill ≡ format.fill }
+        ensures { result ≡ holds format function }
+    {
+        function.is_tensor();
+        let _ = format.fill;
+        Builder {
+            alloc,
+            format,
+            function,
+            last: None,
+        }
     }
 
     /// Its format is placed and its function is one of the format's shapes, with the format's fill.
