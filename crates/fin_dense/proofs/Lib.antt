@@ -1,0 +1,5 @@
+pub mod Coordinates
+pub mod Lists
+pub mod Stops
+pub mod Inputs
+pub mod Stored
