@@ -1,11 +1,10 @@
 -- The inputs by their numbers are the inputs by header.
-use Rattle.std.proofs.Common.{◌≡◌, ℕ, zero, suc, ◌+◌, refl, sym, ap, ◌∙◌, List, [], ◌∷◌, ◌++◌, map, drop, get_or, Option, Some, None, Bool, true, false, if◌then◌else◌, add-one, ◌⊎◌, inl, inr}
-use Rattle.std.specs.Prelude.{option_map, slice_get}
-use Rattle.fin_tensor.specs.Stands.{stands}
+use Rattle.std.proofs.Common.{◌≡◌, ℕ, zero, suc, refl, List, [], ◌∷◌, map, drop, Some, None, Bool, true, false, if◌then◌else◌, add-one, ◌⊎◌, inl, inr}
+use Rattle.std.specs.Prelude.{slice_get}
 use Rattle.fin_tensor.specs.declared.storage.Storage.{Storage}
 use Rattle.fin_ast.specs.declared.header.Header.{Header}
 use Rattle.fin_ast.specs.Kinds.{is_input}
-use Rattle.fin_ast.specs.Dense.{Made, inputs_by_header}
+use Rattle.fin_ast.specs.Dense.{inputs_by_header}
 use Rattle.fin_dense.specs.Inputs.{numbered, found}
 
 record AtEnd (inputs : List Storage) (n : ℕ) : Type 0 where

@@ -1,5 +1,5 @@
 -- Reads of lists, and the tensors that stay after a body.
-use Rattle.std.proofs.Common.{◌≡◌, ℕ, zero, suc, ◌+◌, ◌<◌, ◌≤◌, refl, sym, ap, ◌∙◌, arith, List, [], ◌∷◌, length, get_or, take, set, Option, None, Bool, true, false, if◌then◌else◌, add-one, ℤ, pos, to_z, w64, ◌^◌}
+use Rattle.std.proofs.Common.{◌≡◌, ℕ, zero, suc, ◌+◌, ◌<◌, ◌≤◌, refl, sym, ap, ◌∙◌, arith, List, [], ◌∷◌, length, get_or, take, map, ◌++◌, set, None, Bool, true, false, if◌then◌else◌, add-one, ℤ, pos, to_z, w64, ◌^◌}
 use Rattle.std.proofs.lemmas.Int.{ints}
 use Rattle.std.proofs.lemmas.List.{set-get_or}
 use Rattle.fin_ast.specs.Dense.{Made, kept}
@@ -38,3 +38,12 @@ pub at_turn : (vs vs0 : List ℤ) (var i hi : ℕ) → vs ≡ vs0 → i < hi →
 at_turn vs vs0 var i hi e h small =
     let z : to_z w64 i ≡ pos i = omega (arith, ints) in
     ap (λ (xs : List ℤ). set xs var (to_z w64 i)) e ∙ ap (set vs0 var) z
+
+-- one item more, where each has the same value
+constant_more : {X Y : Type 0} (y : Y) (xs : List X) (i : ℕ) → i < length xs → map (λ x. y) (take i xs) ++ y ∷ [] ≡ map (λ x. y) (take (suc i) xs)
+constant_more y [] i h = absurd (omega arith)
+constant_more y (x ∷ xs) zero h = refl
+constant_more y (x ∷ xs) (suc i) h = ap (λ ys. y ∷ ys) (constant_more y xs i (omega arith))
+
+pub same_more : {X Y : Type 0} (y : Y) (xs : List X) (i : ℕ) → i < length xs → map (λ x. y) (take i xs) ++ y ∷ [] ≡ map (λ x. y) (take (i + 1) xs)
+same_more y xs i h = rw add-one (constant_more y xs i h)

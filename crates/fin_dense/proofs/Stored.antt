@@ -1,5 +1,5 @@
 -- A read of what a storage stands for.
-use Rattle.std.proofs.Common.{◌≡◌, ℕ, ℤ, sym, ap, ◌∙◌, List, Option, Some, None}
+use Rattle.std.proofs.Common.{◌≡◌, ℕ, ℤ, sym, ap, ◌∙◌, List, Some, None}
 use Rattle.fin_tensor.specs.TensorFunction.{value_at}
 use Rattle.fin_tensor.specs.Stands.{stands}
 use Rattle.fin_tensor.specs.Levels.{value_from}

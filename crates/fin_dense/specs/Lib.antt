@@ -3,3 +3,4 @@ pub mod Inputs
 pub mod Halts
 pub mod OneProof
 pub mod Runs
+pub mod Fitting

@@ -1,6 +1,4 @@
 -- What a run of the evaluator stands for.
-use Rattle.std.specs.Prelude.{ℕ, Option, option_map}
-use Rattle.fin_tensor.specs.TensorFunction.{TensorFunction}
 use Rattle.fin_ast.specs.Dense as dense
 use Rattle.fin_dense.specs.declared.setting.Setting.{Setting}
 use Rattle.fin_dense.specs.declared.run.Run.{Run}

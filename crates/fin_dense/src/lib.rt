@@ -10,7 +10,7 @@ mod evaluate;
 mod halt;
 mod lookups;
 mod made;
-
+mod outputs;
 mod points;
 mod reads;
 mod run;

@@ -69,7 +69,13 @@ pub fn shape_of(alloc: Global, setting: &Setting<'_>, tensor: u8) -> Result<Nums
 pub fn fill_of(setting: &Setting<'_>, tensor: u8) -> i64
     ensures { result ≡ fill_of (setting_in setting.now) tensor }
 {
-    match setting.checked.program.headers.as_slice().get(tensor as usize) {
+    match setting
+        .checked
+        .program
+        .headers
+        .as_slice()
+        .get(tensor as usize)
+    {
         Some(header) => header.format.fill,
         None => 0,
     }

@@ -5,8 +5,8 @@ ghost use Rattle.fin_ast.specs.Dense.{fill_of, kept, made_at, shape_at, updated_
 ghost use Rattle.fin_ast.specs.Value.{place};
 ghost use Rattle.fin_dense.specs.Runs.{setting_in};
 
-use crate::points::coordinates;
 use crate::lookups::{fill_of, shape_of};
+use crate::points::coordinates;
 use crate::setting::Setting;
 use fin_ast::{Header, Index};
 use fin_base::Reduce;

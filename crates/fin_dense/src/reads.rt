@@ -5,9 +5,9 @@ ghost use Rattle.fin_ast.specs.Dense.{made_at, tensors_in};
 ghost use Rattle.fin_ast.specs.Value.{place, read as read_of, value_of};
 ghost use Rattle.fin_dense.specs.Runs.{setting_in, state_of};
 
+use crate::lookups::input;
 use crate::points::{coordinates, number};
 use crate::run::Run;
-use crate::lookups::input;
 use crate::setting::Setting;
 use fin_ast::{Expr, Index};
 use fin_base::{negate, operate};

@@ -4,9 +4,9 @@ ghost use Rattle.fin_ast.specs.Dense.{braced, looped, range_of, run_all, run_of}
 ghost use Rattle.fin_dense.specs.Runs.{setting_in, state_of};
 
 use crate::halt::Halt;
+use crate::lookups::range_of;
 use crate::made::{declare, flags, forget, update};
 use crate::reads::value;
-use crate::lookups::range_of;
 use crate::setting::Setting;
 use fin_ast::Stmt;
 use fin_grid::Grid;
@@ -98,12 +98,7 @@ fn one(alloc: Global, setting: &Setting<'_>, run: &mut Run, statement: &Stmt) ->
 
 /// Statements, one after another.
 #[cycle(run)]
-pub fn each(
-    alloc: Global,
-    setting: &Setting<'_>,
-    run: &mut Run,
-    body: &[Stmt],
-) -> Result<(), Halt>
+pub fn each(alloc: Global, setting: &Setting<'_>, run: &mut Run, body: &[Stmt]) -> Result<(), Halt>
     requires few { run.old.turns ≤ 2 ^ 24 }
     ensures ok { OnOk result (state_of run.new ≡ run_all (setting_in setting.now) body.now run.old.vars.items (state_of run.old)) }
     ensures vars { OnOk result (run.new.vars.items ≡ run.old.vars.items) }

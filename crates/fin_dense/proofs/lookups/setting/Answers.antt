@@ -1,4 +1,4 @@
-use Rattle.std.proofs.Common.{◌∙◌, ap, List, Option, ℕ, map}
+use Rattle.std.proofs.Common.{◌∙◌, ap, List, map}
 use Rattle.fin_ast.specs.declared.header.Header.{Header}
 use Rattle.fin_ast.specs.Dense as dense
 use Rattle.fin_dense.specs.Inputs.{numbered, found}
