@@ -1,0 +1,2 @@
+pub mod OnePlain
+pub mod Stored
