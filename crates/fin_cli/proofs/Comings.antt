@@ -17,7 +17,7 @@ use Rattle.fin_ast.specs.Dense.{function_of}
 use Rattle.fin_ast.specs.declared.checked.Checked.{Checked}
 use Rattle.fin_ast.specs.declared.header.Header.{Header}
 use Rattle.fin_dense.specs.Plain.{IsOver, IsPlain, Plains}
-use Rattle.fin_dense.proofs.Stored.{stored_below}
+use Rattle.fin_dense.proofs.OnePlain.{stored_below}
 use Rattle.fin_engine.specs.Verdict.{Accepts, Checks, IsJob}
 use Rattle.fin_cli.specs.Due.{Due, IsDueMode, IsDueOutput, IsDueRead, IsDueThen, done, outputs_text, refused}
 use Rattle.fin_cli.specs.Ends.{Across, Took}

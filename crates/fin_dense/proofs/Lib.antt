@@ -1,2 +1,1 @@
 pub mod OnePlain
-pub mod Stored
