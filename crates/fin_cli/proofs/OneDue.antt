@@ -1,5 +1,5 @@
 -- One answer is due.
-use Rattle.std.proofs.Common.{◌≡◌, ◌∙◌, ℕ, List, Some, None, refl, sym, ap, ap₂, subst, arith}
+use Rattle.std.proofs.Common.{◌≡◌, ◌∙◌, ℕ, List, Some, None, refl, sym, ap₂, subst, arith}
 use Rattle.std.specs.declared.option.Option.{Option}
 use Rattle.fin_dense.specs.Plain.{IsOver, IsPlain}
 use Rattle.fin_dense.proofs.OnePlain.{one_plain, plain_or_over}

@@ -1,4 +1,4 @@
-use Rattle.std.proofs.Common.{◌∙◌, ◌<◌, inl, refl, sym, subst, length, arith}
+use Rattle.std.proofs.Common.{◌<◌, inl, refl, sym, subst, length, arith}
 use Rattle.fin_base.specs.declared.refusal.Rule.TheVariants.{J1}
 use Rattle.std.proofs.KnownBytes.{Appends-nil}
 use Rattle.fin_ports.specs.Bytes.{most}
