@@ -3,7 +3,7 @@ mod rows;
 use crate::{finch, finch_one};
 use fin_ports::{MemSink, MemSource};
 use fin_words::asks_workers;
-use rows::{ENDLESS, ROWS};
+use rows::{ENDLESS, LARGE, ROWS};
 use std::alloc::{AllocError, Global};
 use std::process::Abort;
 use std::test::Fail;
@@ -58,7 +58,7 @@ const REFUSED: Case = Case {
     ..RUN
 };
 
-const CASES: [Case; 20] = [
+const CASES: [Case; 18] = [
     RUN,
     Case { most: 1, ..RUN },
     Case {
@@ -96,17 +96,6 @@ const CASES: [Case; 20] = [
         out: b"tensor y\nforma",
         err: b"write fault\n",
         ..RUN
-    },
-    Case {
-        words: &["finch", "plain"],
-        job: ENDLESS,
-        err: b"refused B2 line 0\n",
-        ..REFUSED
-    },
-    Case {
-        job: ENDLESS,
-        err: b"refused B2 line 0\n",
-        ..REFUSED
     },
     Case {
         words: &["finch", "gen", "--size", "3"],
@@ -356,6 +345,23 @@ fn each_job_is_served(rt: HostRuntime) -> Result<(), Fail> {
                 job: row.job,
                 out: row.out,
                 ..RUN
+            };
+            ends_as(&rt, rt.alloc(), &case)?;
+        }
+    }
+    Ok(())
+}
+
+// Evaluation stops at a turn too many, and an output that is too large isn't stored.
+#[test]
+fn limits_are_kept(rt: HostRuntime) -> Result<(), Fail> {
+    for job in [ENDLESS, LARGE] {
+        for words in MODES {
+            let case = Case {
+                words,
+                job,
+                err: b"refused B2 line 0\n",
+                ..REFUSED
             };
             ends_as(&rt, rt.alloc(), &case)?;
         }

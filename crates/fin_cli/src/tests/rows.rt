@@ -109,3 +109,7 @@ pub(super) const ROWS: [Row; 19] = [
 /// A loop over 2^40 coordinates.
 pub(super) const ENDLESS: &[u8] =
     b"in R runs element\nout s element\ns .= 0\nfor i { s[] += R[i] }\n%%\ntensor R\nformat runs element\nfill 0\nshape 1099511627776\nptr 0 0 1\nstop 0 1099511627776\nval 3\nend\n";
+
+/// An output with 65,537 blocks of 2^24 values, made by as many turns.
+pub(super) const LARGE: &[u8] =
+    b"out b band dense element shape 1099511627776 16777216\nb .= 0\nfor i in 0..65537 { b[i,0] += 1 }\n%%\n";
