@@ -8,6 +8,7 @@ pub mod Grouping
 pub mod Inside
 pub mod Kept
 pub mod Making
+pub mod Mapped
 pub mod Naming
 pub mod Nothing
 pub mod Placed
@@ -22,3 +23,4 @@ pub mod Tallying
 pub mod Unique
 pub mod Valid
 pub mod Whole
+pub mod Listed
