@@ -7,6 +7,8 @@
 
 mod freezes;
 mod spans;
+#[cfg(test)]
+mod tests;
 mod thaws;
 
 pub use freezes::freeze;
