@@ -17,3 +17,4 @@ pub mod Order
 pub mod Value
 pub mod Dense
 pub mod Shaped
+pub mod Accepted

@@ -3,8 +3,7 @@ use Rattle.std.specs.Prelude.{◌≡◌, ℕ, zero, suc, ◌+◌, ◌<◌, List,
 use Rattle.std.specs.Cmp.Lexicographic.{slice_cmp}
 use Rattle.std.specs.Ordering.{nat_cmp}
 use Rattle.std.specs.declared.cmp.Ordering.TheVariants.{Less}
-use Rattle.fin_tensor.specs.declared.format.Format.{Format}
-use Rattle.fin_tensor.specs.declared.format.Wrap.TheVariants.{Bare}
+pub use Rattle.fin_tensor.specs.Canon.{undecorated}
 use Rattle.fin_tensor.specs.TensorFunction.{TensorFunction, is_in_box, filled, with_value}
 
 -- coordinates and a value
@@ -35,7 +34,3 @@ given (e ∷ es) f = given es (with_value f e.0 e.1)
 -- the function that the entries name: the fill elsewhere
 abbrev pub named : List ℕ → ℤ → List Entry → TensorFunction
 named shape fill es = given es (filled shape fill)
-
--- the format without its decoration
-abbrev pub undecorated : Format → Format
-undecorated format = record { levels = format.levels; wrap = Bare; fill = format.fill }

@@ -1,9 +1,10 @@
 -- The canonical storage of a function, level by level.
-use Rattle.std.specs.Prelude.{◌≡◌, ℕ, ◌+◌, ◌-◌, ◌^◌, ◌<◌, ◌≤◌, Bool, true, ◌&&◌, ◌||◌, not, nat_eq, List, [], ◌∷◌, map, length, take, drop, slice_index, slice_index_or, ℤ, filter, flat_map}
+use Rattle.std.specs.Prelude.{◌≡◌, ℕ, ◌+◌, ◌-◌, ◌^◌, ◌<◌, ◌≤◌, Bool, true, false, ◌&&◌, ◌||◌, not, nat_eq, nat_le, List, [], ◌∷◌, map, length, take, drop, slice_index, slice_index_or, ℤ, filter, flat_map}
 use Rattle.std.specs.List.{range_with_len}
 use Rattle.std.specs.Ordering.{int_eq}
 use Rattle.fin_tensor.specs.TensorFunction.{TensorFunction, value_at, box}
 use Rattle.fin_tensor.specs.declared.format.Format.{Format}
+use Rattle.fin_tensor.specs.declared.format.Wrap.TheVariants.{Bare}
 use Rattle.fin_tensor.specs.declared.storage.Storage.{Storage}
 use Rattle.fin_tensor.specs.declared.format.Level.{Level}
 use Rattle.fin_tensor.specs.declared.format.Level.TheVariants as level
@@ -83,6 +84,12 @@ IsAllowed [] fill ns fs = length fs ≤ 2 ^ 40
 IsAllowed (l ∷ ls) fill [] fs = ⊥
 IsAllowed (l ∷ ls) fill (n ∷ ns) fs = (length fs ≤ 2 ^ 40) × IsAllowed ls fill ns (next (kept l fill n ns) fs)
 
+-- the same as a test
+abbrev pub is_allowed : List Level → ℤ → List ℕ → List Slice → Bool
+is_allowed [] fill ns fs = nat_le (length fs) (2 ^ 40)
+is_allowed (l ∷ ls) fill [] fs = false
+is_allowed (l ∷ ls) fill (n ∷ ns) fs = nat_le (length fs) (2 ^ 40) && is_allowed ls fill ns (next (kept l fill n ns) fs)
+
 -- the coordinates that a fibre's lists tell
 abbrev pub told_in : ℕ → Part → ℕ → List ℕ
 told_in n part.Dense p = range_with_len 0 n
@@ -101,6 +108,10 @@ HasForm [] fill ns ps val fs = val ≡ map (λ f. f []) fs
 HasForm (l ∷ ls) fill (n ∷ ns) (p ∷ ps) val fs =
     ((pos : ℕ) → pos < length fs → told_in n p pos ≡ kept l fill n ns (slice_index_or fs pos (λ _. fill))) × EmptyAtZero (length fs) p × HasForm ls fill ns ps val (next (kept l fill n ns) fs)
 HasForm (l ∷ ls) fill ns ps val fs = ⊥
+
+-- the format without its decoration
+abbrev pub undecorated : Format → Format
+undecorated format = record { levels = format.levels; wrap = Bare; fill = format.fill }
 
 -- the storage is the canonical one of the function in the format: its one slice at the start is the whole function
 pub record IsCanon (format : Format) (f : TensorFunction) (s : Storage) : Type 0 where
