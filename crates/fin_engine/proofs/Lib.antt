@@ -2,3 +2,4 @@ pub mod Cutting
 pub mod Strays
 pub mod OneWhole
 pub mod Verdicts
+pub mod JobsFit

@@ -1,5 +1,6 @@
 //! The verdict on a job.
-ghost use Rattle.std.specs.Prelude.{◌≡◌, ◌≤◌, length};
+ghost use Rattle.std.specs.Prelude.{◌≡◌, ◌≤◌, length, IfOk};
+ghost use Rattle.fin_ast.specs.Shaped.{FitHeaders};
 ghost use Rattle.fin_engine.specs.Verdict.{Checks, ChecksProgram, ChecksWhole};
 
 use crate::cut::cut;
@@ -22,7 +23,17 @@ use std::alloc::Global;
 /// # Errors
 /// The first rule that the text breaks, with its line, in the order of the rules (`docs/LANGUAGE.md`); and want of
 /// memory.
+///
+/// The extents of a job fit its headers: each tensor has one for each level, and none is over 2^40.
 pub fn check(alloc: Global, text: &[u8]) -> Result<Job, Fail>
+    requires short { length text.now ≤ 16777216 }
+    ensures verdict { Checks text.now result }
+    ensures fits { IfOk result (λ job. FitHeaders job.checked.program.headers job.checked.dims) }
+{
+    check_text(alloc, text)
+}
+
+fn check_text(alloc: Global, text: &[u8]) -> Result<Job, Fail>
     requires short { length text.now ≤ 16777216 }
     ensures verdict { Checks text.now result }
 {
