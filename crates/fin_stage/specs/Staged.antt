@@ -1,7 +1,8 @@
 -- A run of a program by the stages of its tensors. It does what dense evaluation does; it keeps besides whether each
 -- statement was asked for what it can do, and the work, coordinate by coordinate.
-use Rattle.std.specs.Prelude.{ℕ, zero, suc, ◌+◌, ◌-◌, Bool, true, false, not, ◌&&◌, if◌then◌else◌, ℤ, pos, List, [], ◌∷◌, map, Option, Some, None, is_some, is_none, slice_index_or, slice_set, slice_get, unwrap_or, option_map}
+use Rattle.std.specs.Prelude.{ℕ, zero, suc, ◌+◌, ◌-◌, ◌^◌, Bool, true, false, not, ◌&&◌, nat_le, unsigned_abs, if◌then◌else◌, ℤ, pos, List, [], ◌∷◌, map, Option, Some, None, is_some, is_none, slice_index_or, slice_set, slice_get, unwrap_or, option_map}
 use Rattle.std.specs.Ordering.{int_eq}
+use Rattle.std.specs.List.{list_all}
 use Rattle.fin_base.specs.Words.{apply}
 use Rattle.fin_base.specs.declared.reduce.Reduce.{Reduce}
 use Rattle.fin_tensor.specs.declared.format.Format.{Format}
@@ -12,11 +13,12 @@ use Rattle.fin_tensor.specs.Canon.{undecorated}
 use Rattle.fin_tensor.specs.declared.storage.Storage.{Storage}
 use Rattle.fin_ast.specs.declared.header.Header.{Header}
 use Rattle.fin_ast.specs.declared.checked.Checked.{Checked}
+use Rattle.fin_ast.specs.declared.tree.Index.{Index}
 use Rattle.fin_ast.specs.declared.tree.Expr.{Expr, fold-Expr}
 use Rattle.fin_ast.specs.declared.tree.Expr.TheOpen.{Expr-F}
 use Rattle.fin_ast.specs.declared.tree.Stmt.{Stmt, fold-Stmt}
 use Rattle.fin_ast.specs.declared.tree.Stmt.TheOpen.{Stmt-F}
-use Rattle.fin_ast.specs.Value.{Numbers, Tensors, place, coordinates, value_of}
+use Rattle.fin_ast.specs.Value.{Numbers, Tensors, number_if, place, coordinates, value_of}
 use Rattle.fin_ast.specs.Dense.{Setting, Made, made_at, shape_at, range_of, setting_of, unbound}
 use Rattle.fin_stage.specs.Stages.{Stage, Absent, Built, Frozen, stage_at, kept, readable, work_of_declaration, work_of_storing}
 
@@ -45,23 +47,36 @@ asked possible r = if possible then r else refused r
 
 -- ---- expressions
 
--- each tensor that it reads can be read
-abbrev pub reads_step : Expr-F (Tensors → Bool) → Tensors → Bool
-reads_step (Expr-F.Num n) ts = true
-reads_step (Expr-F.Var var line) ts = true
-reads_step (Expr-F.Read tensor at line) ts = is_some (ts tensor)
-reads_step (Expr-F.Neg inner) ts = inner ts
-reads_step (Expr-F.Two op left right) ts = left ts && right ts
+-- a number that sums of indices don't leave the words with
+abbrev pub is_small : ℤ → Bool
+is_small z = nat_le (unsigned_abs z) (2 ^ 40)
 
-abbrev pub can_read : Expr → Tensors → Bool
-can_read = fold-Expr (Tensors → Bool) reads_step
+abbrev pub is_small_index : Numbers → Index → Bool
+is_small_index vars i = is_small (number_if vars i.first) && is_small (number_if vars i.second) && is_small i.offset
+
+abbrev pub are_small : Numbers → List Index → Bool
+are_small vars at = list_all (is_small_index vars) at
+
+-- each tensor that an expression reads can be read, and its indices are small
+abbrev pub Question : Type 0
+Question = Numbers → Tensors → Bool
+
+abbrev pub reads_step : Expr-F Question → Question
+reads_step (Expr-F.Num n) vars ts = true
+reads_step (Expr-F.Var var line) vars ts = true
+reads_step (Expr-F.Read tensor at line) vars ts = is_some (ts tensor) && are_small vars at
+reads_step (Expr-F.Neg inner) vars ts = inner vars ts
+reads_step (Expr-F.Two op left right) vars ts = left vars ts && right vars ts
+
+abbrev pub can_read : Expr → Question
+can_read = fold-Expr Question reads_step
 
 abbrev pub tensors_of : Setting → Run → Tensors
 tensors_of w r = readable w.given r.stages
 
 -- the run goes on with the value of an expression
 abbrev pub with_value : Setting → Expr → Numbers → (ℤ → Run → Run) → Run → Run
-with_value w e vars then r = then (value_of e vars (tensors_of w r)) (asked (can_read e (tensors_of w r)) r)
+with_value w e vars after r = after (value_of e vars (tensors_of w r)) (asked (can_read e vars (tensors_of w r)) r)
 
 -- ---- statements
 
@@ -136,7 +151,7 @@ stage_step w (Stmt-F.Bind var value body line last) vars r = with_value w value 
 stage_step w (Stmt-F.Declare tensor value line) vars r = declare w tensor r
 stage_step w (Stmt-F.Freeze tensor line) vars r = freeze tensor r
 stage_step w (Stmt-F.Thaw tensor line) vars r = thaw w tensor r
-stage_step w (Stmt-F.Update tensor at by value line) vars r = with_value w value vars (λ v r'. update w tensor (map (place vars) at) by v r') r
+stage_step w (Stmt-F.Update tensor at by value line) vars r = with_value w value vars (λ v r'. update w tensor (map (place vars) at) by v (asked (are_small vars at) r')) r
 
 abbrev pub stage_of : Setting → Stmt → Action
 stage_of w = fold-Stmt Action (stage_step w)
