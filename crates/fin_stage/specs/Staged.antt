@@ -24,10 +24,18 @@ use Rattle.fin_stage.specs.Stages.{Stage, Absent, Built, Frozen, stage_at, kept,
 
 -- ---- the run so far
 
+-- `alive` falls where a statement asks for another stage of a tensor than there is, `inside` where an index leaves its
+-- tensor, and `ordered` where an update comes before the last one
 pub record Run : Type 0 where
   pub stages : List Stage
   pub work : ℕ
-  pub regular : Bool
+  pub alive : Bool
+  pub inside : Bool
+  pub ordered : Bool
+
+-- each statement was asked for what it can do
+abbrev pub regular : Run → Bool
+regular r = r.alive && r.inside && r.ordered
 
 abbrev pub Action : Type 0
 Action = Numbers → Run → Run
@@ -38,12 +46,15 @@ worked n r = record r { work = r.work + n }
 abbrev pub with_stage : ℕ → Stage → Run → Run
 with_stage tensor stage r = record r { stages = slice_set r.stages tensor stage }
 
--- what can't be done changes nothing, and the run isn't regular
-abbrev pub refused : Run → Run
-refused r = record r { regular = false }
+-- what can't be done changes nothing
+abbrev pub unalive : Run → Run
+unalive r = record r { alive = false }
 
-abbrev pub asked : Bool → Run → Run
-asked possible r = if possible then r else refused r
+abbrev pub outside : Run → Run
+outside r = record r { inside = false }
+
+abbrev pub unordered : Run → Run
+unordered r = record r { ordered = false }
 
 -- ---- expressions
 
@@ -57,26 +68,40 @@ is_small_index vars i = is_small (number_if vars i.first) && is_small (number_if
 abbrev pub are_small : Numbers → List Index → Bool
 are_small vars at = list_all (is_small_index vars) at
 
--- each tensor that an expression reads can be read, and its indices are small
-abbrev pub Question : Type 0
-Question = Numbers → Tensors → Bool
+-- each tensor that an expression reads can be read
+abbrev pub reads_step : Expr-F (Tensors → Bool) → Tensors → Bool
+reads_step (Expr-F.Num n) ts = true
+reads_step (Expr-F.Var var line) ts = true
+reads_step (Expr-F.Read tensor at line) ts = is_some (ts tensor)
+reads_step (Expr-F.Neg inner) ts = inner ts
+reads_step (Expr-F.Two op left right) ts = left ts && right ts
 
-abbrev pub reads_step : Expr-F Question → Question
-reads_step (Expr-F.Num n) vars ts = true
-reads_step (Expr-F.Var var line) vars ts = true
-reads_step (Expr-F.Read tensor at line) vars ts = is_some (ts tensor) && are_small vars at
-reads_step (Expr-F.Neg inner) vars ts = inner vars ts
-reads_step (Expr-F.Two op left right) vars ts = left vars ts && right vars ts
+abbrev pub can_read : Expr → Tensors → Bool
+can_read = fold-Expr (Tensors → Bool) reads_step
 
-abbrev pub can_read : Expr → Question
-can_read = fold-Expr Question reads_step
+-- the indices of its reads are small
+abbrev pub indices_step : Expr-F (Numbers → Bool) → Numbers → Bool
+indices_step (Expr-F.Num n) vars = true
+indices_step (Expr-F.Var var line) vars = true
+indices_step (Expr-F.Read tensor at line) vars = are_small vars at
+indices_step (Expr-F.Neg inner) vars = inner vars
+indices_step (Expr-F.Two op left right) vars = left vars && right vars
+
+abbrev pub has_small_indices : Expr → Numbers → Bool
+has_small_indices = fold-Expr (Numbers → Bool) indices_step
+
+abbrev pub asked_to_read : Bool → Run → Run
+asked_to_read possible r = if possible then r else unalive r
+
+abbrev pub asked_for_small : Bool → Run → Run
+asked_for_small small r = if small then r else outside r
 
 abbrev pub tensors_of : Setting → Run → Tensors
 tensors_of w r = readable w.given r.stages
 
 -- the run goes on with the value of an expression
 abbrev pub with_value : Setting → Expr → Numbers → (ℤ → Run → Run) → Run → Run
-with_value w e vars after r = after (value_of e vars (tensors_of w r)) (asked (can_read e vars (tensors_of w r)) r)
+with_value w e vars after r = after (value_of e vars (tensors_of w r)) (asked_for_small (has_small_indices e vars) (asked_to_read (can_read e (tensors_of w r)) r))
 
 -- ---- statements
 
@@ -112,35 +137,35 @@ abbrev pub declare : Setting → ℕ → Run → Run
 declare w tensor r =
     if is_made w tensor
     then worked (work_of_declaration (format_at w tensor).levels (shape_at w tensor)) (with_stage tensor (Built (started (format_at w tensor) (shape_at w tensor))) r)
-    else refused r
+    else unalive r
 
 abbrev pub freeze_at : ℕ → Stage → Run → Run
-freeze_at tensor Absent r = refused r
+freeze_at tensor Absent r = unalive r
 freeze_at tensor (Built b) r = worked (work_of_storing b.format b.function) (with_stage tensor (Frozen (undecorated b.format) b.function) r)
-freeze_at tensor (Frozen format f) r = refused r
+freeze_at tensor (Frozen format f) r = unalive r
 
 abbrev pub freeze : ℕ → Run → Run
 freeze tensor r = freeze_at tensor (stage_at r.stages tensor) r
 
 abbrev pub thaw_at : ℕ → Stage → Run → Run
-thaw_at tensor Absent r = refused r
-thaw_at tensor (Built b) r = refused r
+thaw_at tensor Absent r = unalive r
+thaw_at tensor (Built b) r = unalive r
 thaw_at tensor (Frozen format f) r = worked (work_of_storing format f) (with_stage tensor (Built (record { format = format; function = f; last = None })) r)
 
 abbrev pub thaw : Setting → ℕ → Run → Run
-thaw w tensor r = if is_made w tensor then thaw_at tensor (stage_at r.stages tensor) r else refused r
+thaw w tensor r = if is_made w tensor then thaw_at tensor (stage_at r.stages tensor) r else unalive r
 
 abbrev pub put_at : ℕ → Building → Option (List ℕ) → Reduce → ℤ → Run → Run
-put_at tensor b None by v r = refused r
-put_at tensor b (Some cs) by v r = if follows b cs then with_stage tensor (Built (updated b cs (λ old. apply by old v))) r else refused r
+put_at tensor b None by v r = outside r
+put_at tensor b (Some cs) by v r = if follows b cs then with_stage tensor (Built (updated b cs (λ old. apply by old v))) r else unordered r
 
 abbrev pub update_at : ℕ → Stage → List ℤ → Reduce → ℤ → Run → Run
-update_at tensor Absent at by v r = refused r
+update_at tensor Absent at by v r = unalive r
 update_at tensor (Built b) at by v r = put_at tensor b (coordinates b.function.shape at) by v r
-update_at tensor (Frozen format f) at by v r = refused r
+update_at tensor (Frozen format f) at by v r = unalive r
 
 abbrev pub update : Setting → ℕ → List ℤ → Reduce → ℤ → Run → Run
-update w tensor at by v r = worked 1 (if is_made w tensor then update_at tensor (stage_at r.stages tensor) at by v r else refused r)
+update w tensor at by v r = worked 1 (if is_made w tensor then update_at tensor (stage_at r.stages tensor) at by v r else unalive r)
 
 -- one node, with what each inner statement does in its place
 abbrev pub stage_step : Setting → Stmt-F Action → Action
@@ -151,7 +176,7 @@ stage_step w (Stmt-F.Bind var value body line last) vars r = with_value w value 
 stage_step w (Stmt-F.Declare tensor value line) vars r = declare w tensor r
 stage_step w (Stmt-F.Freeze tensor line) vars r = freeze tensor r
 stage_step w (Stmt-F.Thaw tensor line) vars r = thaw w tensor r
-stage_step w (Stmt-F.Update tensor at by value line) vars r = with_value w value vars (λ v r'. update w tensor (map (place vars) at) by v (asked (are_small vars at) r')) r
+stage_step w (Stmt-F.Update tensor at by value line) vars r = with_value w value vars (λ v r'. update w tensor (map (place vars) at) by v (asked_for_small (are_small vars at) r')) r
 
 abbrev pub stage_of : Setting → Stmt → Action
 stage_of w = fold-Stmt Action (stage_step w)
@@ -162,7 +187,7 @@ stage_all w body = in_turn (map (stage_of w) body)
 -- ---- whole programs
 
 abbrev pub before_all : List Header → Run
-before_all headers = record { stages = map (λ h. Absent) headers; work = 0; regular = true }
+before_all headers = record { stages = map (λ h. Absent) headers; work = 0; alive = true; inside = true; ordered = true }
 
 abbrev pub staged : Checked → List Storage → Run
 staged c inputs = stage_all (setting_of c inputs) c.program.body (unbound c.dims) (before_all c.program.headers)
