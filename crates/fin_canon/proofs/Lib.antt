@@ -22,3 +22,4 @@ pub mod Tallying
 pub mod Unique
 pub mod Valid
 pub mod Whole
+pub mod Listed

@@ -15,7 +15,7 @@ use Rattle.fin_tensor.specs.TensorFunction.{IsEntry, IsTensor, is_in_box, Tensor
 pub only_equal_tie : IsAntisymmetric (slice_cmp nat_cmp)
 only_equal_tie = slice_cmp-IsAntisymmetric nat_cmp-IsAntisymmetric
 
-same_option : (a b : Option ℤ) (x y : ℤ) → IfSome a (λ v. v ≢ x) → IfSome b (λ v. v ≢ y) → x ≡ y → unwrap_or a x ≡ unwrap_or b y → a ≡ b
+pub same_option : (a b : Option ℤ) (x y : ℤ) → IfSome a (λ v. v ≢ x) → IfSome b (λ v. v ≢ y) → x ≡ y → unwrap_or a x ≡ unwrap_or b y → a ≡ b
 same_option None None x y p q e h = refl
 same_option None (Some w) x y p q e h = absurd (q (sym h ∙ e))
 same_option (Some v) None x y p q e h = absurd (p (h ∙ sym e))
@@ -107,7 +107,7 @@ gives_one_place f cs v =
       | false ↦ λ e. (there_inserted f cs v, λ ds n. ap (λ o. unwrap_or o f.fill) (other_inserted f cs v ds n))
     ] refl
 
-differs : (v w : ℤ) → int_eq v w ≡ false → v ≢ w
+pub differs : (v w : ℤ) → int_eq v w ≡ false → v ≢ w
 differs v w e = grind (arith, ints)
 
 -- with one entry more, or with one less

@@ -68,3 +68,11 @@ GivesOnePlace = (f : TensorFunction) (cs : List ℕ) (v : ℤ) → (value_at (wi
 -- what stays a tensor function
 abbrev pub KeepsTensors : Type 0
 KeepsTensors = (f : TensorFunction) (cs : List ℕ) (v : ℤ) → IsTensor f → IsTrue (is_in_box f.shape cs) → FitsSigned w64 v → IsTensor (with_value f cs v)
+
+-- the same of an entry that need be no word
+pub record IsCell (shape : List ℕ) (fill : ℤ) (cs : List ℕ) (v : ℤ) : Type 0 where
+  pub inside : IsTrue (is_in_box shape cs)
+  pub other : v ≢ fill
+
+abbrev pub HasCells : TensorFunction → Type 0
+HasCells f = (cs : List ℕ) → IfSome (finite.get f.cells cs) (IsCell f.shape f.fill cs)
