@@ -1,3 +1,4 @@
 pub mod Induction
 pub mod Equations
 pub mod Onward
+pub mod Fits
