@@ -30,13 +30,13 @@ set_cases [] k x j = inr refl
 set_cases (y ∷ xs) zero x zero = inl (refl, refl)
 set_cases (y ∷ xs) zero x (suc j) = inr refl
 set_cases (y ∷ xs) (suc k) x zero = inr refl
-set_cases (y ∷ xs) (suc k) x (suc j) = elim (set_cases xs k x j) [ | inl h ↦ inl (ap suc h.0, h.1) | inr h ↦ inr h ]
+set_cases (y ∷ xs) (suc k) x (suc j) = elim (set_cases xs k x j) [ inl h ↦ inl (ap suc h.0, h.1) | inr h ↦ inr h ]
 
 -- and after a body's end
 pub kept_cases : (before stages : List Stage) (j : ℕ) → (stage_at (kept before stages) j ≡ Absent) ⊎ (stage_at (kept before stages) j ≡ stage_at stages j)
 kept_cases [] stages j = inr refl
 kept_cases (b ∷ before) [] j = inr refl
-kept_cases (b ∷ before) (x ∷ stages) zero = elim (is_declared b) as (λ t. ((if t then x else Absent) ≡ Absent) ⊎ ((if t then x else Absent) ≡ x)) [ | true ↦ inr refl | false ↦ inl refl ]
+kept_cases (b ∷ before) (x ∷ stages) zero = elim (is_declared b) as (λ t. ((if t then x else Absent) ≡ Absent) ⊎ ((if t then x else Absent) ≡ x)) [ true ↦ inr refl | false ↦ inl refl ]
 kept_cases (b ∷ before) (x ∷ stages) (suc j) = kept_cases before stages j
 
 absent_at : (headers : List Header) (j : ℕ) → stage_at (map (λ h. Absent) headers) j ≡ Absent
