@@ -1,1 +1,6 @@
 pub mod Plain
+pub mod Inputs
+pub mod Halts
+pub mod OneProof
+pub mod Runs
+pub mod Fitting

@@ -1,7 +1,16 @@
-//! A stub, which is replaced.
+//! Whole programs.
+ghost use Rattle.std.specs.Prelude.{◌≡◌, ◌<◌, ◌≤◌, ◌^◌, IfOk, IsErrOf, map, pos};
 ghost use Rattle.fin_ast.specs.Shaped.{FitHeaders};
-ghost use Rattle.fin_dense.specs.Plain.{Plains};
+ghost use Rattle.fin_dense.specs.Fitting.{whole};
+ghost use Rattle.fin_dense.specs.Plain.{IsOver, IsPlain, Plains};
+ghost use Rattle.fin_dense.specs.Runs.{setting_in, state_of};
 
+use crate::halt::Halt;
+use crate::lookups::setting;
+use crate::made::nothing_made;
+use crate::outputs::outputs;
+use crate::run::{Run, each};
+use crate::setting::Setting;
 use fin_ast::Checked;
 use fin_base::Fail;
 use fin_tensor::{Outputs, Storage};
@@ -16,8 +25,49 @@ pub fn plain(alloc: Global, checked: &Checked, inputs: &[Storage]) -> Result<Out
     requires fits { FitHeaders checked.now.program.headers checked.now.dims }
     ensures plains { Plains checked.now inputs.now result }
 {
-    let _ = alloc;
-    let _ = checked;
-    let _ = inputs;
-    Err(Fail::Memory(AllocError))
+    let outputs = evaluate(alloc, checked, inputs)?;
+    Ok(outputs)
+}
+
+fn evaluate(alloc: Global, checked: &Checked, inputs: &[Storage]) -> Result<Outputs, Halt>
+    requires fits { FitHeaders checked.now.program.headers checked.now.dims }
+    ensures plain { IfOk result (λ o. IsPlain checked.now inputs.now o) }
+    ensures over { IsErrOf result Halt.Spent → IsOver checked.now inputs.now }
+{
+    let setting = setting(alloc, checked, inputs)?;
+    let run = run_whole(alloc, &setting)?;
+    let outputs = outputs(alloc, &setting, run.made.as_slice())?;
+    Ok(outputs)
+}
+
+fn run_whole(alloc: Global, setting: &Setting<'_>) -> Result<Run, Halt>
+    ensures ok { IfOk result (λ run. state_of run ≡ whole (setting_in setting.now) setting.now.checked.now) }
+    ensures few { IfOk result (λ run. run.turns ≤ 2 ^ 24) }
+    ensures spent { IsErrOf result Halt.Spent → 2 ^ 24 < (whole (setting_in setting.now) setting.now.checked.now).turns }
+{
+    let made = nothing_made(alloc, setting.checked.program.headers.as_slice())?;
+    let vars = unbound(alloc, setting.checked.dims.ranges.as_slice())?;
+    let mut run = Run {
+        made,
+        vars,
+        turns: 0,
+    };
+    each(
+        alloc,
+        setting,
+        &mut run,
+        setting.checked.program.body.as_slice(),
+    )?;
+    Ok(run)
+}
+
+// No variable is bound.
+fn unbound(alloc: Global, ranges: &[(u64, u64)]) -> Result<Vec<i64>, AllocError>
+    ensures { IfOk result (λ vars. vars.items ≡ map (λ r. pos 0) ranges.now) }
+{
+    let mut vars = Vec::new(alloc);
+    for _range in ranges {
+        vars.push(0)?;
+    }
+    Ok(vars)
 }

@@ -1,0 +1,92 @@
+//! Values of expressions.
+ghost use Rattle.std.specs.Prelude.{◌≡◌, IfOk, Some, map};
+ghost use Rattle.fin_tensor.specs.Stands.{stands};
+ghost use Rattle.fin_ast.specs.Dense.{made_at, tensors_in};
+ghost use Rattle.fin_ast.specs.Value.{place, read as read_of, value_of};
+ghost use Rattle.fin_dense.specs.Runs.{setting_in, state_of};
+
+use crate::lookups::input;
+use crate::points::{coordinates, number};
+use crate::run::Run;
+use crate::setting::Setting;
+use fin_ast::{Expr, Index};
+use fin_base::{negate, operate};
+use fin_grid::Grid;
+use fin_tensor::Storage;
+use std::alloc::{AllocError, Global};
+
+/// The value of an expression.
+pub fn value(
+    alloc: Global,
+    setting: &Setting<'_>,
+    run: &Run,
+    expr: &Expr,
+) -> Result<i64, AllocError>
+    ensures { IfOk result (λ v. v ≡ value_of expr.now run.now.vars.items (tensors_in (setting_in setting.now) (state_of run.now))) }
+{
+    match expr {
+        Expr::Num(value) => Ok(*value),
+        Expr::Var { var, line: _ } => Ok(number(run.vars.as_slice(), *var)),
+        Expr::Read {
+            tensor,
+            at,
+            line: _,
+        } => read(alloc, setting, run, *tensor, at.as_slice()),
+        Expr::Neg(inner) => {
+            let inner = value(alloc, setting, run, inner.get())?;
+            Ok(negate(inner))
+        }
+        Expr::Two { op, left, right } => {
+            let left = value(alloc, setting, run, left.get())?;
+            let right = value(alloc, setting, run, right.get())?;
+            Ok(operate(*op, left, right))
+        }
+    }
+}
+
+fn read(
+    alloc: Global,
+    setting: &Setting<'_>,
+    run: &Run,
+    tensor: u8,
+    at: &[Index],
+) -> Result<i64, AllocError>
+    ensures { IfOk result (λ v. v ≡ read_of (tensors_in (setting_in setting.now) (state_of run.now) tensor) (map (place run.now.vars.items) at.now)) }
+{
+    match input(setting, tensor) {
+        Some(storage) => read_stored(alloc, storage, at, run.vars.as_slice()),
+        None => read_made(alloc, run.made.as_slice(), tensor, at, run.vars.as_slice()),
+    }
+}
+
+fn read_stored(
+    alloc: Global,
+    storage: &Storage,
+    at: &[Index],
+    vars: &[i64],
+) -> Result<i64, AllocError>
+    ensures { IfOk result (λ v. v ≡ read_of (Some (stands storage.now)) (map (place vars.now) at.now)) }
+{
+    match coordinates(alloc, storage.shape.as_slice(), at, vars)? {
+        Some(cs) => Ok(storage.at(cs.as_slice())),
+        None => Ok(storage.format.fill),
+    }
+}
+
+fn read_made(
+    alloc: Global,
+    made: &[Option<Grid>],
+    tensor: u8,
+    at: &[Index],
+    vars: &[i64],
+) -> Result<i64, AllocError>
+    ensures { IfOk result (λ v. v ≡ read_of (made_at made.now tensor) (map (place vars.now) at.now)) }
+{
+    match made.get(tensor as usize) {
+        Some(Some(grid)) => match coordinates(alloc, grid.shape(), at, vars)? {
+            Some(cs) => Ok(grid.value(&cs)),
+            None => Ok(grid.fill()),
+        },
+        _ => Ok(0),
+    }
+}

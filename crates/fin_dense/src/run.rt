@@ -1,0 +1,180 @@
+//! Statements, run one after another.
+ghost use Rattle.std.specs.Prelude.{◌≡◌, ◌<◌, ◌≤◌, ◌^◌, IsErrOf, OnOk, pos, slice_set};
+ghost use Rattle.fin_ast.specs.Dense.{braced, looped, range_of, run_all, run_of};
+ghost use Rattle.fin_dense.specs.Runs.{setting_in, state_of};
+
+use crate::halt::Halt;
+use crate::lookups::range_of;
+use crate::made::{declare, flags, forget, update};
+use crate::reads::value;
+use crate::setting::Setting;
+use fin_ast::Stmt;
+use fin_grid::Grid;
+use std::alloc::Global;
+
+/// The most loop turns.
+const MOST_TURNS: u64 = 16_777_216;
+
+/// What a run has made so far, by header, the numbers that are bound, by variable, and the loop turns.
+#[derive(Drop)]
+pub struct Run {
+    pub made: Vec<Option<Grid>>,
+    pub vars: Vec<i64>,
+    pub turns: u64,
+}
+
+/// One statement.
+#[cycle(run)]
+fn one(alloc: Global, setting: &Setting<'_>, run: &mut Run, statement: &Stmt) -> Result<(), Halt>
+    requires few { run.old.turns ≤ 2 ^ 24 }
+    ensures ok { OnOk result (state_of run.new ≡ run_of (setting_in setting.now) statement.now run.old.vars.items (state_of run.old)) }
+    ensures vars { OnOk result (run.new.vars.items ≡ run.old.vars.items) }
+    ensures within { OnOk result (run.new.turns ≤ 2 ^ 24) }
+    ensures spent { IsErrOf result Halt.Spent → 2 ^ 24 < (run_of (setting_in setting.now) statement.now run.old.vars.items (state_of run.old)).turns }
+{
+    match statement {
+        Stmt::Block {
+            body,
+            line: _,
+            last: _,
+        } => braced(alloc, setting, run, body.as_slice()),
+        Stmt::Loop {
+            var,
+            range: _,
+            par: _,
+            body,
+            line: _,
+            last: _,
+        } => looped(alloc, setting, run, *var, body.as_slice()),
+        Stmt::Cond {
+            test,
+            body,
+            line: _,
+            last: _,
+        } => {
+            let test = value(alloc, setting, run, test)?;
+            if test == 0 {
+                return Ok(());
+            }
+            braced(alloc, setting, run, body.as_slice())
+        }
+        Stmt::Bind {
+            var,
+            value: bound,
+            body,
+            line: _,
+            last: _,
+        } => {
+            let number = value(alloc, setting, run, bound)?;
+            bind(alloc, setting, run, *var, number, body.as_slice())
+        }
+        Stmt::Declare {
+            tensor,
+            value: _,
+            line: _,
+        } => Ok(declare(alloc, setting, &mut run.made, *tensor)?),
+        Stmt::Freeze { tensor: _, line: _ } => Ok(()),
+        Stmt::Thaw { tensor: _, line: _ } => Ok(()),
+        Stmt::Update {
+            tensor,
+            at,
+            by,
+            value: given,
+            line: _,
+        } => {
+            let given = value(alloc, setting, run, given)?;
+            Ok(update(
+                alloc,
+                &mut run.made,
+                *tensor,
+                at.as_slice(),
+                *by,
+                given,
+                run.vars.as_slice(),
+            )?)
+        }
+    }
+}
+
+/// Statements, one after another.
+#[cycle(run)]
+pub fn each(alloc: Global, setting: &Setting<'_>, run: &mut Run, body: &[Stmt]) -> Result<(), Halt>
+    requires few { run.old.turns ≤ 2 ^ 24 }
+    ensures ok { OnOk result (state_of run.new ≡ run_all (setting_in setting.now) body.now run.old.vars.items (state_of run.old)) }
+    ensures vars { OnOk result (run.new.vars.items ≡ run.old.vars.items) }
+    ensures within { OnOk result (run.new.turns ≤ 2 ^ 24) }
+    ensures spent { IsErrOf result Halt.Spent → 2 ^ 24 < (run_all (setting_in setting.now) body.now run.old.vars.items (state_of run.old)).turns }
+{
+    for statement in body {
+        one(alloc, setting, run, statement)?;
+    }
+    Ok(())
+}
+
+// A body in braces: what it declares first is gone at its end.
+#[cycle(run)]
+fn braced(alloc: Global, setting: &Setting<'_>, run: &mut Run, body: &[Stmt]) -> Result<(), Halt>
+    requires few { run.old.turns ≤ 2 ^ 24 }
+    ensures ok { OnOk result (state_of run.new ≡ braced (run_all (setting_in setting.now) body.now) run.old.vars.items (state_of run.old)) }
+    ensures vars { OnOk result (run.new.vars.items ≡ run.old.vars.items) }
+    ensures within { OnOk result (run.new.turns ≤ 2 ^ 24) }
+    ensures spent { IsErrOf result Halt.Spent → 2 ^ 24 < (braced (run_all (setting_in setting.now) body.now) run.old.vars.items (state_of run.old)).turns }
+{
+    let before = flags(alloc, run.made.as_slice())?;
+    each(alloc, setting, run, body)?;
+    forget(&mut run.made, before.as_slice());
+    Ok(())
+}
+
+// The body with a number bound, which is put back behind it.
+#[cycle(run)]
+fn bind(
+    alloc: Global,
+    setting: &Setting<'_>,
+    run: &mut Run,
+    var: u32,
+    number: i64,
+    body: &[Stmt],
+) -> Result<(), Halt>
+    requires few { run.old.turns ≤ 2 ^ 24 }
+    ensures ok { OnOk result (state_of run.new ≡ braced (run_all (setting_in setting.now) body.now) (slice_set run.old.vars.items var number) (state_of run.old)) }
+    ensures vars { OnOk result (run.new.vars.items ≡ run.old.vars.items) }
+    ensures within { OnOk result (run.new.turns ≤ 2 ^ 24) }
+    ensures spent { IsErrOf result Halt.Spent → 2 ^ 24 < (braced (run_all (setting_in setting.now) body.now) (slice_set run.old.vars.items var number) (state_of run.old)).turns }
+{
+    let var = var as usize;
+    if var >= run.vars.len() {
+        return braced(alloc, setting, run, body);
+    }
+    let before = run.vars[var];
+    run.vars[var] = number;
+    braced(alloc, setting, run, body)?;
+    run.vars[var] = before;
+    Ok(())
+}
+
+// A loop, turn by turn.
+#[cycle(run)]
+fn looped(
+    alloc: Global,
+    setting: &Setting<'_>,
+    run: &mut Run,
+    var: u32,
+    body: &[Stmt],
+) -> Result<(), Halt>
+    requires few { run.old.turns ≤ 2 ^ 24 }
+    ensures ok { OnOk result (state_of run.new ≡ looped (range_of (setting_in setting.now) var) var (braced (run_all (setting_in setting.now) body.now)) run.old.vars.items (state_of run.old)) }
+    ensures vars { OnOk result (run.new.vars.items ≡ run.old.vars.items) }
+    ensures within { OnOk result (run.new.turns ≤ 2 ^ 24) }
+    ensures spent { IsErrOf result Halt.Spent → 2 ^ 24 < (looped (range_of (setting_in setting.now) var) var (braced (run_all (setting_in setting.now) body.now)) run.old.vars.items (state_of run.old)).turns }
+{
+    let (lo, hi) = range_of(setting, var);
+    for i in lo..hi {
+        if run.turns == MOST_TURNS {
+            return Err(Halt::Spent);
+        }
+        run.turns += 1;
+        bind(alloc, setting, run, var, i as i64, body)?;
+    }
+    Ok(())
+}
