@@ -39,7 +39,7 @@ kept_cases (b ∷ before) [] j = inr refl
 kept_cases (b ∷ before) (x ∷ stages) zero = elim (is_declared b) as (λ t. ((if t then x else Absent) ≡ Absent) ⊎ ((if t then x else Absent) ≡ x)) [ true ↦ inr refl | false ↦ inl refl ]
 kept_cases (b ∷ before) (x ∷ stages) (suc j) = kept_cases before stages j
 
-absent_at : (headers : List Header) (j : ℕ) → stage_at (map (λ h. Absent) headers) j ≡ Absent
+pub absent_at : (headers : List Header) (j : ℕ) → stage_at (map (λ h. Absent) headers) j ≡ Absent
 absent_at [] j = refl
 absent_at (h ∷ headers) zero = refl
 absent_at (h ∷ headers) (suc j) = absent_at headers j

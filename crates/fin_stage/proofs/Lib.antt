@@ -5,3 +5,4 @@ pub mod Fits
 pub mod Agreeing
 pub mod Alive
 pub mod AliveAll
+pub mod AliveWhole
