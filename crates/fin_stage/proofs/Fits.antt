@@ -62,7 +62,7 @@ module _ (w : Setting) where
 
   -- ---- single statements
 
-  same_fill : (o : Option Header) → (unwrap_or (option_map (λ (h : Header). h.format) o) no_format).fill ≡ unwrap_or (option_map (λ (h : Header). h.format.fill) o) (pos 0)
+  pub same_fill : (o : Option Header) → (unwrap_or (option_map (λ (h : Header). h.format) o) no_format).fill ≡ unwrap_or (option_map (λ (h : Header). h.format.fill) o) (pos 0)
   same_fill None = refl
   same_fill (Some h) = refl
 

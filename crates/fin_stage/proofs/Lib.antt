@@ -6,3 +6,5 @@ pub mod Agreeing
 pub mod Alive
 pub mod AliveAll
 pub mod AliveWhole
+pub mod Simulating
+pub mod Simulated

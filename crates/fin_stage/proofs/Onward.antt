@@ -58,9 +58,9 @@ long_kept (b ∷ before) (x ∷ stages) = ap suc (long_kept before stages)
 pub onward_closed : (before : List Stage) (r : Run) → Onward r (closed before r)
 onward_closed before r = record { work = omega arith; alive = λ e. e; inside = λ e. e; ordered = λ e. e; long = long_kept before r.stages }
 
-either : (b : Bool) (r x y : Run) → Onward r x → Onward r y → Onward r (if b then x else y)
-either true r x y f g = f
-either false r x y f g = g
+pub either_goes_on : (b : Bool) (r x y : Run) → Onward r x → Onward r y → Onward r (if b then x else y)
+either_goes_on true r x y f g = f
+either_goes_on false r x y f g = g
 
 -- ---- actions
 
@@ -70,7 +70,7 @@ GoesOn a = (vars : Numbers) (r : Run) → Onward r (a vars r)
 pub asked_goes_on : (w : Setting) (e : Expr) (vars : Numbers) (r : Run) → Onward r (asked_for_small (has_small_indices e vars) (asked_to_read (can_read e (tensors_of w r)) r))
 asked_goes_on w e vars r =
     let read : Run = asked_to_read (can_read e (tensors_of w r)) r in
-    onward_then r read _ (either (can_read e (tensors_of w r)) r r (unalive r) (onward_still r) (onward_unalive r)) (either (has_small_indices e vars) read read (outside read) (onward_still read) (onward_outside read))
+    onward_then r read _ (either_goes_on (can_read e (tensors_of w r)) r r (unalive r) (onward_still r) (onward_unalive r)) (either_goes_on (has_small_indices e vars) read read (outside read) (onward_still read) (onward_outside read))
 
 value_goes_on : (w : Setting) (e : Expr) (vars : Numbers) (after : ℤ → Run → Run) → ((v : ℤ) (r : Run) → Onward r (after v r)) → (r : Run) → Onward r (with_value w e vars after r)
 value_goes_on w e vars after h r =
@@ -92,7 +92,7 @@ looped_goes_on range var a h vars r = onward_then r (worked 1 r) _ (onward_worke
 -- ---- statements
 
 declare_goes_on : (w : Setting) (tensor : ℕ) (r : Run) → Onward r (declare w tensor r)
-declare_goes_on w tensor r = either (is_made w tensor) r _ (unalive r) (onward_then r (with_stage tensor _ r) _ (onward_stage tensor _ r) (onward_worked _ (with_stage tensor _ r))) (onward_unalive r)
+declare_goes_on w tensor r = either_goes_on (is_made w tensor) r _ (unalive r) (onward_then r (with_stage tensor _ r) _ (onward_stage tensor _ r) (onward_worked _ (with_stage tensor _ r))) (onward_unalive r)
 
 freeze_goes_on : (tensor : ℕ) (x : Stage) (r : Run) → Onward r (freeze_at tensor x r)
 freeze_goes_on tensor Absent r = onward_unalive r
@@ -106,19 +106,19 @@ thaw_goes_on tensor (Frozen format f) r = onward_then r (with_stage tensor _ r) 
 
 put_goes_on : (tensor : ℕ) (b : Building) (at : Option (List ℕ)) (by : Reduce) (v : ℤ) (r : Run) → Onward r (put_at tensor b at by v r)
 put_goes_on tensor b None by v r = onward_outside r
-put_goes_on tensor b (Some cs) by v r = either (follows b cs) r _ (unordered r) (onward_stage tensor _ r) (onward_unordered r)
+put_goes_on tensor b (Some cs) by v r = either_goes_on (follows b cs) r _ (unordered r) (onward_stage tensor _ r) (onward_unordered r)
 
 update_at_goes_on : (tensor : ℕ) (x : Stage) (at : List ℤ) (by : Reduce) (v : ℤ) (r : Run) → Onward r (update_at tensor x at by v r)
 update_at_goes_on tensor Absent at by v r = onward_unalive r
 update_at_goes_on tensor (Built b) at by v r = put_goes_on tensor b (coordinates b.function.shape at) by v r
 update_at_goes_on tensor (Frozen format f) at by v r = onward_unalive r
 
-update_goes_on : (w : Setting) (tensor : ℕ) (at : List ℤ) (by : Reduce) (v : ℤ) (r : Run) → Onward r (update w tensor at by v r)
+pub update_goes_on : (w : Setting) (tensor : ℕ) (at : List ℤ) (by : Reduce) (v : ℤ) (r : Run) → Onward r (update w tensor at by v r)
 update_goes_on w tensor at by v r =
-    onward_then r _ (update w tensor at by v r) (either (is_made w tensor) r _ (unalive r) (update_at_goes_on tensor (stage_at r.stages tensor) at by v r) (onward_unalive r)) (onward_worked 1 _)
+    onward_then r _ (update w tensor at by v r) (either_goes_on (is_made w tensor) r _ (unalive r) (update_at_goes_on tensor (stage_at r.stages tensor) at by v r) (onward_unalive r)) (onward_worked 1 _)
 
-small_goes_on : (b : Bool) (r : Run) → Onward r (asked_for_small b r)
-small_goes_on b r = either b r r (outside r) (onward_still r) (onward_outside r)
+pub small_goes_on : (b : Bool) (r : Run) → Onward r (asked_for_small b r)
+small_goes_on b r = either_goes_on b r r (outside r) (onward_still r) (onward_outside r)
 
 module _ (w : Setting) where
   in_turn_goes_on : (body : List Stmt) → AllOf (λ x. GoesOn (stage_of w x)) body → GoesOn (stage_all w body)
@@ -130,12 +130,12 @@ module _ (w : Setting) where
     block = λ body line last all vars r. subst (Onward r) (sym (stage_block w vars r body line last)) (braced_goes_on (stage_all w body) (in_turn_goes_on body all) vars r);
     loop = λ var range par body line last all vars r. subst (Onward r) (sym (stage_loop w vars r var range par body line last)) (looped_goes_on (range_of w var) var (braced (stage_all w body)) (braced_goes_on (stage_all w body) (in_turn_goes_on body all)) vars r);
     cond = λ test body line last all vars r. subst (Onward r) (sym (stage_cond w vars r test body line last))
-        (onward_then r (worked 1 r) _ (onward_worked 1 r) (value_goes_on w test vars (λ v x. if int_eq v (pos 0) then x else braced (stage_all w body) vars x) (λ v x. either (int_eq v (pos 0)) x x _ (onward_still x) (braced_goes_on (stage_all w body) (in_turn_goes_on body all) vars x)) (worked 1 r)));
+        (onward_then r (worked 1 r) _ (onward_worked 1 r) (value_goes_on w test vars (λ v x. if int_eq v (pos 0) then x else braced (stage_all w body) vars x) (λ v x. either_goes_on (int_eq v (pos 0)) x x _ (onward_still x) (braced_goes_on (stage_all w body) (in_turn_goes_on body all) vars x)) (worked 1 r)));
     bind = λ var value body line last all vars r. subst (Onward r) (sym (stage_bind w vars r var value body line last))
         (onward_then r (worked 1 r) _ (onward_worked 1 r) (value_goes_on w value vars (λ v x. braced (stage_all w body) (slice_set vars var v) x) (λ v x. braced_goes_on (stage_all w body) (in_turn_goes_on body all) (slice_set vars var v) x) (worked 1 r)));
     declare = λ tensor value line vars r. subst (Onward r) (sym (stage_declare w vars r tensor value line)) (declare_goes_on w tensor r);
     freeze = λ tensor line vars r. subst (Onward r) (sym (stage_freeze w vars r tensor line)) (freeze_goes_on tensor (stage_at r.stages tensor) r);
-    thaw = λ tensor line vars r. subst (Onward r) (sym (stage_thaw w vars r tensor line)) (either (is_made w tensor) r _ (unalive r) (thaw_goes_on tensor (stage_at r.stages tensor) r) (onward_unalive r));
+    thaw = λ tensor line vars r. subst (Onward r) (sym (stage_thaw w vars r tensor line)) (either_goes_on (is_made w tensor) r _ (unalive r) (thaw_goes_on tensor (stage_at r.stages tensor) r) (onward_unalive r));
     update = λ tensor at by value line vars r. subst (Onward r) (sym (stage_update w vars r tensor at by value line))
         (value_goes_on w value vars (λ v x. update w tensor (map (place vars) at) by v (asked_for_small (are_small vars at) x)) (λ v x. onward_then x (asked_for_small (are_small vars at) x) _ (small_goes_on (are_small vars at) x) (update_goes_on w tensor (map (place vars) at) by v (asked_for_small (are_small vars at) x))) r);
   }
