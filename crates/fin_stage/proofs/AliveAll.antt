@@ -26,7 +26,7 @@ use Rattle.fin_ast.specs.Dense.{Setting, made_at, range_of, shape_at}
 use Rattle.fin_ast.proofs.Nodes.{of_block, of_loop, of_cond, of_bind, of_declare, of_freeze, of_thaw, of_update}
 use Rattle.fin_life.specs.Passage.{ModeOf, Passage, turned, breach_of_expr, breach_in, after_all, body_breach, stmt_passage, passage_of, passages_of}
 use Rattle.fin_stage.specs.Stages.{Stage, Absent, Built, Frozen, stage_at, work_of_declaration, work_of_storing}
-use Rattle.fin_stage.specs.Staged.{Run, Action, worked, with_stage, unalive, outside, unordered, with_value, asked_to_read, asked_for_small, has_small_indices, can_read, tensors_of, are_small, braced, repeated, looped, is_made, declare, freeze, freeze_at, thaw, thaw_at, put_at, update_at, update, format_at, stage_of, stage_all}
+use Rattle.fin_stage.specs.Staged.{Run, Action, worked, with_stage, unalive, unsmall, unordered, with_value, asked_to_read, asked_for_small, has_small_indices, can_read, tensors_of, are_small, braced, repeated, looped, is_made, declare, freeze, freeze_at, thaw, thaw_at, put_at, update_at, update, format_at, stage_of, stage_all}
 use Rattle.fin_tensor.specs.Building.{started}
 use Rattle.fin_tensor.specs.Canon.{undecorated}
 use Rattle.fin_stage.proofs.Induction.{AllOf, Cases, by_kind, all_by_kind}
@@ -102,7 +102,7 @@ module _ (hs : List Header) (w : Setting) (given_is : (t : ℕ) → is_some (mad
       (subst (λ (y : Stage). Alive (turned now t Update) (thaw_at t y r)) (sym x) done)
 
   put_lives : (t : ℕ) (b : Building) (o : Option (List ℕ)) (by : Reduce) (v : ℤ) (now : ModeOf) (r : Run) → now t ≡ Update → made_at w.given t ≡ None → t < length hs → Alive now r → Alive now (put_at t b o by v r)
-  put_lives t b None by v now r m g lt l = record { alive = l.alive; long = l.long; agree = l.agree }
+  put_lives t b None by v now r m g lt l = l
   put_lives t b (Some cs) by v now r m g lt l =
       either hs w given_is now (follows b cs) (with_stage t (Built (updated b cs (λ old. apply by old v))) r) (unordered r) (stays_living hs w given_is now t _ r m g lt l) (record { alive = l.alive; long = l.long; agree = l.agree })
 

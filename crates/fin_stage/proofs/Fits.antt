@@ -17,7 +17,7 @@ use Rattle.fin_ast.specs.Value.{Numbers, place, coordinates, value_of}
 use Rattle.fin_ast.specs.Dense.{Setting, range_of, shape_at, fill_of}
 use Rattle.fin_ast.proofs.InBox.{in_box}
 use Rattle.fin_stage.specs.Stages.{Stage, Absent, Built, Frozen, stage_at, is_declared, kept}
-use Rattle.fin_stage.specs.Staged.{Run, Action, worked, with_stage, unalive, outside, unordered, with_value, tensors_of, can_read, has_small_indices, asked_to_read, asked_for_small, are_small, closed, braced, repeated, looped, is_made, declare, freeze, freeze_at, thaw, thaw_at, put_at, update_at, update, no_format, format_at, stage_of, stage_all, before_all}
+use Rattle.fin_stage.specs.Staged.{Run, Action, worked, with_stage, unalive, unsmall, unordered, with_value, tensors_of, can_read, has_small_indices, asked_to_read, asked_for_small, are_small, closed, braced, repeated, looped, is_made, declare, freeze, freeze_at, thaw, thaw_at, put_at, update_at, update, no_format, format_at, stage_of, stage_all, before_all}
 use Rattle.fin_stage.specs.Fitting.{FunctionFits, StageFits, StagesFit}
 use Rattle.fin_stage.proofs.Induction.{AllOf, Cases, by_kind, all_by_kind}
 use Rattle.fin_stage.proofs.Equations.{stage_block, stage_loop, stage_cond, stage_bind, stage_declare, stage_freeze, stage_thaw, stage_update}
@@ -103,7 +103,7 @@ module _ (w : Setting) where
   update_at_fits tensor (Frozen format f) at by v r fx h = h
 
   small_fits : (b : Bool) (r : Run) → StagesFit w r.stages → StagesFit w (asked_for_small b r).stages
-  small_fits b r h = either b r (outside r) h h
+  small_fits b r h = either b r (unsmall r) h h
 
   update_fits : (tensor : ℕ) (at : List ℤ) (by : Reduce) (v : ℤ) (r : Run) → StagesFit w r.stages → StagesFit w (update w tensor at by v r).stages
   update_fits tensor at by v r h = either (is_made w tensor) (update_at tensor (stage_at r.stages tensor) at by v r) (unalive r) (update_at_fits tensor (stage_at r.stages tensor) at by v r (h tensor) h) h

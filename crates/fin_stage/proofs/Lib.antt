@@ -8,3 +8,5 @@ pub mod AliveAll
 pub mod AliveWhole
 pub mod Simulating
 pub mod Simulated
+pub mod Smallness
+pub mod Small

@@ -12,43 +12,43 @@ use Rattle.fin_ast.specs.declared.tree.Stmt.TheVariants as s
 use Rattle.fin_ast.specs.Value.{Numbers, place, coordinates, value_of}
 use Rattle.fin_ast.specs.Dense.{Setting, range_of}
 use Rattle.fin_stage.specs.Stages.{Stage, Absent, Built, Frozen, stage_at, kept}
-use Rattle.fin_stage.specs.Staged.{Run, Action, worked, with_stage, unalive, outside, unordered, with_value, tensors_of, can_read, has_small_indices, asked_to_read, asked_for_small, are_small, in_turn, closed, braced, repeated, looped, is_made, declare, freeze, freeze_at, thaw, thaw_at, put_at, update_at, update, stage_of, stage_all}
+use Rattle.fin_stage.specs.Staged.{Run, Action, worked, with_stage, unalive, unsmall, unordered, with_value, tensors_of, can_read, has_small_indices, asked_to_read, asked_for_small, are_small, in_turn, closed, braced, repeated, looped, is_made, declare, freeze, freeze_at, thaw, thaw_at, put_at, update_at, update, stage_of, stage_all}
 use Rattle.fin_stage.proofs.Induction.{AllOf, Cases, by_kind, all_by_kind}
 use Rattle.fin_stage.proofs.Equations.{stage_block, stage_loop, stage_cond, stage_bind, stage_declare, stage_freeze, stage_thaw, stage_update}
 
 pub record Onward (r n : Run) : Type 0 where
   pub work : r.work ≤ n.work
   pub alive : n.alive ≡ true → r.alive ≡ true
-  pub inside : n.inside ≡ true → r.inside ≡ true
+  pub small : n.small ≡ true → r.small ≡ true
   pub ordered : n.ordered ≡ true → r.ordered ≡ true
   pub long : length n.stages ≡ length r.stages
 
 pub onward_still : (r : Run) → Onward r r
-onward_still r = record { work = omega arith; alive = λ e. e; inside = λ e. e; ordered = λ e. e; long = refl }
+onward_still r = record { work = omega arith; alive = λ e. e; small = λ e. e; ordered = λ e. e; long = refl }
 
 pub onward_then : (a b c : Run) → Onward a b → Onward b c → Onward a c
 onward_then a b c f g = record {
   work = omega (arith, f.work, g.work);
   alive = λ e. f.alive (g.alive e);
-  inside = λ e. f.inside (g.inside e);
+  small = λ e. f.small (g.small e);
   ordered = λ e. f.ordered (g.ordered e);
   long = g.long ∙ f.long;
 }
 
 pub onward_worked : (n : ℕ) (r : Run) → Onward r (worked n r)
-onward_worked n r = record { work = omega arith; alive = λ e. e; inside = λ e. e; ordered = λ e. e; long = refl }
+onward_worked n r = record { work = omega arith; alive = λ e. e; small = λ e. e; ordered = λ e. e; long = refl }
 
 pub onward_stage : (tensor : ℕ) (x : Stage) (r : Run) → Onward r (with_stage tensor x r)
-onward_stage tensor x r = record { work = omega arith; alive = λ e. e; inside = λ e. e; ordered = λ e. e; long = length-set r.stages tensor x }
+onward_stage tensor x r = record { work = omega arith; alive = λ e. e; small = λ e. e; ordered = λ e. e; long = length-set r.stages tensor x }
 
 pub onward_unalive : (r : Run) → Onward r (unalive r)
-onward_unalive r = record { work = omega arith; alive = λ e. absurd (cc); inside = λ e. e; ordered = λ e. e; long = refl }
+onward_unalive r = record { work = omega arith; alive = λ e. absurd (cc); small = λ e. e; ordered = λ e. e; long = refl }
 
-pub onward_outside : (r : Run) → Onward r (outside r)
-onward_outside r = record { work = omega arith; alive = λ e. e; inside = λ e. absurd (cc); ordered = λ e. e; long = refl }
+pub onward_unsmall : (r : Run) → Onward r (unsmall r)
+onward_unsmall r = record { work = omega arith; alive = λ e. e; small = λ e. absurd (cc); ordered = λ e. e; long = refl }
 
 pub onward_unordered : (r : Run) → Onward r (unordered r)
-onward_unordered r = record { work = omega arith; alive = λ e. e; inside = λ e. e; ordered = λ e. absurd (cc); long = refl }
+onward_unordered r = record { work = omega arith; alive = λ e. e; small = λ e. e; ordered = λ e. absurd (cc); long = refl }
 
 long_kept : (before stages : List Stage) → length (kept before stages) ≡ length stages
 long_kept [] stages = refl
@@ -56,7 +56,7 @@ long_kept (b ∷ before) [] = refl
 long_kept (b ∷ before) (x ∷ stages) = ap suc (long_kept before stages)
 
 pub onward_closed : (before : List Stage) (r : Run) → Onward r (closed before r)
-onward_closed before r = record { work = omega arith; alive = λ e. e; inside = λ e. e; ordered = λ e. e; long = long_kept before r.stages }
+onward_closed before r = record { work = omega arith; alive = λ e. e; small = λ e. e; ordered = λ e. e; long = long_kept before r.stages }
 
 pub either_goes_on : (b : Bool) (r x y : Run) → Onward r x → Onward r y → Onward r (if b then x else y)
 either_goes_on true r x y f g = f
@@ -70,7 +70,7 @@ GoesOn a = (vars : Numbers) (r : Run) → Onward r (a vars r)
 pub asked_goes_on : (w : Setting) (e : Expr) (vars : Numbers) (r : Run) → Onward r (asked_for_small (has_small_indices e vars) (asked_to_read (can_read e (tensors_of w r)) r))
 asked_goes_on w e vars r =
     let read : Run = asked_to_read (can_read e (tensors_of w r)) r in
-    onward_then r read _ (either_goes_on (can_read e (tensors_of w r)) r r (unalive r) (onward_still r) (onward_unalive r)) (either_goes_on (has_small_indices e vars) read read (outside read) (onward_still read) (onward_outside read))
+    onward_then r read _ (either_goes_on (can_read e (tensors_of w r)) r r (unalive r) (onward_still r) (onward_unalive r)) (either_goes_on (has_small_indices e vars) read read (unsmall read) (onward_still read) (onward_unsmall read))
 
 value_goes_on : (w : Setting) (e : Expr) (vars : Numbers) (after : ℤ → Run → Run) → ((v : ℤ) (r : Run) → Onward r (after v r)) → (r : Run) → Onward r (with_value w e vars after r)
 value_goes_on w e vars after h r =
@@ -105,7 +105,7 @@ thaw_goes_on tensor (Built b) r = onward_unalive r
 thaw_goes_on tensor (Frozen format f) r = onward_then r (with_stage tensor _ r) _ (onward_stage tensor _ r) (onward_worked _ (with_stage tensor _ r))
 
 put_goes_on : (tensor : ℕ) (b : Building) (at : Option (List ℕ)) (by : Reduce) (v : ℤ) (r : Run) → Onward r (put_at tensor b at by v r)
-put_goes_on tensor b None by v r = onward_outside r
+put_goes_on tensor b None by v r = onward_still r
 put_goes_on tensor b (Some cs) by v r = either_goes_on (follows b cs) r _ (unordered r) (onward_stage tensor _ r) (onward_unordered r)
 
 update_at_goes_on : (tensor : ℕ) (x : Stage) (at : List ℤ) (by : Reduce) (v : ℤ) (r : Run) → Onward r (update_at tensor x at by v r)
@@ -118,7 +118,7 @@ update_goes_on w tensor at by v r =
     onward_then r _ (update w tensor at by v r) (either_goes_on (is_made w tensor) r _ (unalive r) (update_at_goes_on tensor (stage_at r.stages tensor) at by v r) (onward_unalive r)) (onward_worked 1 _)
 
 pub small_goes_on : (b : Bool) (r : Run) → Onward r (asked_for_small b r)
-small_goes_on b r = either_goes_on b r r (outside r) (onward_still r) (onward_outside r)
+small_goes_on b r = either_goes_on b r r (unsmall r) (onward_still r) (onward_unsmall r)
 
 module _ (w : Setting) where
   in_turn_goes_on : (body : List Stmt) → AllOf (λ x. GoesOn (stage_of w x)) body → GoesOn (stage_all w body)

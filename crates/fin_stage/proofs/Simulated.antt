@@ -20,10 +20,10 @@ use Rattle.fin_ast.specs.Dense as dense
 use Rattle.fin_ast.specs.Dense.{Setting, State, Made, made_at, range_of, shape_at, fill_of, tensors_in, run_of, run_all, setting_of, unbound, evaluated}
 use Rattle.fin_ast.proofs.Runs.{run_block, run_loop, run_cond, run_bind, run_declare, run_freeze, run_thaw, run_update}
 use Rattle.fin_stage.specs.Stages.{Stage, Absent, Built, Frozen, stage_at, function_in, work_of_declaration}
-use Rattle.fin_stage.specs.Staged.{Run, Action, worked, with_stage, unalive, outside, unordered, with_value, asked_for_small, are_small, braced, looped, is_made, declare, freeze, freeze_at, thaw, thaw_at, put_at, update_at, update, format_at, stage_of, stage_all, before_all, staged}
+use Rattle.fin_stage.specs.Staged.{Run, Action, worked, with_stage, unalive, unsmall, unordered, with_value, asked_for_small, are_small, braced, looped, is_made, declare, freeze, freeze_at, thaw, thaw_at, put_at, update_at, update, format_at, stage_of, stage_all, before_all, staged}
 use Rattle.fin_stage.proofs.Induction.{AllOf, Cases, by_kind, all_by_kind}
 use Rattle.fin_stage.proofs.Equations.{stage_block, stage_loop, stage_cond, stage_bind, stage_declare, stage_freeze, stage_thaw, stage_update}
-use Rattle.fin_stage.proofs.Onward.{Onward, GoesOn, onward_then, onward_still, onward_outside, all_go_on, braced_goes_on, repeated_goes_on, small_goes_on, update_goes_on, either_goes_on}
+use Rattle.fin_stage.proofs.Onward.{Onward, GoesOn, onward_then, onward_still, onward_unsmall, all_go_on, braced_goes_on, repeated_goes_on, small_goes_on, update_goes_on, either_goes_on}
 use Rattle.fin_stage.proofs.Fits.{same_fill}
 use Rattle.fin_stage.proofs.Simulating.{functions, function_at, set_functions, same_function, Good, Simulates, good_before, small_good, small_same, value_simulates, braced_simulates, repeated_simulates, in_turn_simulates}
 
@@ -65,7 +65,7 @@ module _ (w : Setting) where
   thaw_if tensor false r t h g = absurd (let f : false ≡ true = g.alive in cc)
 
   put_same : (tensor : ℕ) (b : Building) (o : Option (List ℕ)) (by : Reduce) (v : ℤ) (r : Run) (t : State) → stage_at r.stages tensor ≡ Built b → Same r t → Good (put_at tensor b o by v r) → slice_set t.made tensor (Some (dense.updated_at b.function o by v)) ≡ functions (put_at tensor b o by v r).stages
-  put_same tensor b None by v r t e h g = absurd (let f : false ≡ true = g.inside in cc)
+  put_same tensor b None by v r t e h g = ap (λ (fs : Made). slice_set fs tensor (Some b.function)) h ∙ set_functions r.stages tensor (Built b) ∙ same_function r.stages tensor (Built b) (ap function_in e)
   put_same tensor b (Some cs) by v r t e h g = follow (follows b cs) g where
     follow : (k : Bool) → Good (if k then with_stage tensor (Built (updated b cs (λ old. apply by old v))) r else unordered r) → slice_set t.made tensor (Some (dense.updated_at b.function (Some cs) by v)) ≡ functions (if k then with_stage tensor (Built (updated b cs (λ old. apply by old v))) r else unordered r).stages
     follow true g' = ap (λ (fs : Made). slice_set fs tensor (Some (dense.updated_at b.function (Some cs) by v))) h ∙ set_functions r.stages tensor (Built (updated b cs (λ old. apply by old v)))
@@ -79,7 +79,7 @@ module _ (w : Setting) where
       ap (λ (o : Option TensorFunction). slice_set t.made tensor (dense.updated_if o at by v)) there ∙ put_same tensor b (coordinates b.function.shape at) by v r t e h g
 
   update_if : (tensor : ℕ) (m : Bool) (at : List ℤ) (by : Reduce) (v : ℤ) (r : Run) (t : State) → Same r t → Good (worked 1 (if m then update_at tensor (stage_at r.stages tensor) at by v r else unalive r)) → Same (worked 1 (if m then update_at tensor (stage_at r.stages tensor) at by v r else unalive r)) (dense.updated tensor at by v t)
-  update_if tensor true at by v r t h g = update_at_same tensor (stage_at r.stages tensor) at by v r t refl h (record { alive = g.alive; inside = g.inside; ordered = g.ordered })
+  update_if tensor true at by v r t h g = update_at_same tensor (stage_at r.stages tensor) at by v r t refl h (record { alive = g.alive; small = g.small; ordered = g.ordered })
   update_if tensor false at by v r t h g = absurd (let f : false ≡ true = g.alive in cc)
 
   -- ---- all statements

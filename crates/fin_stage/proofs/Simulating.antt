@@ -20,7 +20,7 @@ use Rattle.fin_ast.specs.Dense as dense
 use Rattle.fin_ast.specs.Dense.{Setting, State, Made, made_at, range_of, tensors_in, run_of, run_all}
 use Rattle.fin_ast.proofs.Runs.{run_block, run_loop, run_cond, run_bind, run_declare, run_freeze, run_thaw, run_update}
 use Rattle.fin_stage.specs.Stages.{Stage, Absent, Built, Frozen, stage_at, function_in, frozen_in, is_declared, kept, readable}
-use Rattle.fin_stage.specs.Staged.{Run, Action, worked, with_stage, unalive, outside, unordered, with_value, tensors_of, reads_step, can_read, has_small_indices, asked_to_read, asked_for_small, are_small, closed, braced, repeated, looped, is_made, declare, freeze, freeze_at, thaw, thaw_at, put_at, update_at, update, format_at, stage_of, stage_all}
+use Rattle.fin_stage.specs.Staged.{Run, Action, worked, with_stage, unalive, unsmall, unordered, with_value, tensors_of, reads_step, can_read, has_small_indices, asked_to_read, asked_for_small, are_small, closed, braced, repeated, looped, is_made, declare, freeze, freeze_at, thaw, thaw_at, put_at, update_at, update, format_at, stage_of, stage_all}
 use Rattle.fin_stage.proofs.Induction.{AllOf, Cases, by_kind, all_by_kind}
 use Rattle.fin_stage.proofs.Equations.{stage_block, stage_loop, stage_cond, stage_bind, stage_declare, stage_freeze, stage_thaw, stage_update}
 use Rattle.fin_stage.proofs.Onward.{Onward, GoesOn, stage_goes_on, all_go_on, braced_goes_on, repeated_goes_on}
@@ -91,11 +91,11 @@ frozen_is None (Frozen format f) e = refl
 -- ---- runs
 pub record Good (r : Run) : Type 0 where
   pub alive : r.alive ≡ true
-  pub inside : r.inside ≡ true
+  pub small : r.small ≡ true
   pub ordered : r.ordered ≡ true
 
 pub good_before : (r n : Run) → Onward r n → Good n → Good r
-good_before r n o g = record { alive = o.alive g.alive; inside = o.inside g.inside; ordered = o.ordered g.ordered }
+good_before r n o g = record { alive = o.alive g.alive; small = o.small g.small; ordered = o.ordered g.ordered }
 
 module _ (w : Setting) where
   abbrev Same : Run → State → Type 0
@@ -114,7 +114,7 @@ module _ (w : Setting) where
 
   pub small_good : (b : Bool) (r : Run) → Good (asked_for_small b r) → Good r
   small_good true r g = g
-  small_good false r g = record { alive = g.alive; inside = absurd (let e : false ≡ true = g.inside in cc); ordered = g.ordered }
+  small_good false r g = record { alive = g.alive; small = absurd (let e : false ≡ true = g.small in cc); ordered = g.ordered }
 
   read_good : (b : Bool) (r : Run) → Good (asked_to_read b r) → b ≡ true
   read_good true r g = refl
@@ -136,7 +136,7 @@ module _ (w : Setting) where
 
   pub braced_simulates : (a : Action) (d : dense.Action) → Simulates a d → Simulates (braced a) (dense.braced d)
   braced_simulates a d f vars r t h g =
-      let inner : Same (a vars r) (d vars t) = f vars r t h (record { alive = g.alive; inside = g.inside; ordered = g.ordered }) in
+      let inner : Same (a vars r) (d vars t) = f vars r t h (record { alive = g.alive; small = g.small; ordered = g.ordered }) in
       ap (λ (fs : Made). dense.kept (map is_some fs) (d vars t).made) h ∙ ap (dense.kept (map is_some (functions r.stages))) inner ∙ kept_functions r.stages (a vars r).stages
 
   pub repeated_simulates : (n lo var : ℕ) (a : Action) (d : dense.Action) → GoesOn a → Simulates a d → Simulates (repeated n lo var a) (dense.repeated n lo var d)

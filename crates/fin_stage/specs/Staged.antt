@@ -24,18 +24,18 @@ use Rattle.fin_stage.specs.Stages.{Stage, Absent, Built, Frozen, stage_at, kept,
 
 -- ---- the run so far
 
--- `alive` falls where a statement asks for another stage of a tensor than there is, `inside` where an index leaves its
--- tensor, and `ordered` where an update comes before the last one
+-- `alive` falls where a statement asks for another stage of a tensor than there is, `small` where an index isn't
+-- small, and `ordered` where an update comes before the last one
 pub record Run : Type 0 where
   pub stages : List Stage
   pub work : ℕ
   pub alive : Bool
-  pub inside : Bool
+  pub small : Bool
   pub ordered : Bool
 
 -- each statement was asked for what it can do
 abbrev pub regular : Run → Bool
-regular r = r.alive && r.inside && r.ordered
+regular r = r.alive && r.small && r.ordered
 
 abbrev pub Action : Type 0
 Action = Numbers → Run → Run
@@ -50,8 +50,8 @@ with_stage tensor stage r = record r { stages = slice_set r.stages tensor stage 
 abbrev pub unalive : Run → Run
 unalive r = record r { alive = false }
 
-abbrev pub outside : Run → Run
-outside r = record r { inside = false }
+abbrev pub unsmall : Run → Run
+unsmall r = record r { small = false }
 
 abbrev pub unordered : Run → Run
 unordered r = record r { ordered = false }
@@ -94,7 +94,7 @@ abbrev pub asked_to_read : Bool → Run → Run
 asked_to_read possible r = if possible then r else unalive r
 
 abbrev pub asked_for_small : Bool → Run → Run
-asked_for_small small r = if small then r else outside r
+asked_for_small small r = if small then r else unsmall r
 
 abbrev pub tensors_of : Setting → Run → Tensors
 tensors_of w r = readable w.given r.stages
@@ -155,8 +155,9 @@ thaw_at tensor (Frozen format f) r = worked (work_of_storing format f) (with_sta
 abbrev pub thaw : Setting → ℕ → Run → Run
 thaw w tensor r = if is_made w tensor then thaw_at tensor (stage_at r.stages tensor) r else unalive r
 
+-- outside the box there is nothing to put
 abbrev pub put_at : ℕ → Building → Option (List ℕ) → Reduce → ℤ → Run → Run
-put_at tensor b None by v r = outside r
+put_at tensor b None by v r = r
 put_at tensor b (Some cs) by v r = if follows b cs then with_stage tensor (Built (updated b cs (λ old. apply by old v))) r else unordered r
 
 abbrev pub update_at : ℕ → Stage → List ℤ → Reduce → ℤ → Run → Run
@@ -187,7 +188,7 @@ stage_all w body = in_turn (map (stage_of w) body)
 -- ---- whole programs
 
 abbrev pub before_all : List Header → Run
-before_all headers = record { stages = map (λ h. Absent) headers; work = 0; alive = true; inside = true; ordered = true }
+before_all headers = record { stages = map (λ h. Absent) headers; work = 0; alive = true; small = true; ordered = true }
 
 abbrev pub staged : Checked → List Storage → Run
 staged c inputs = stage_all (setting_of c inputs) c.program.body (unbound c.dims) (before_all c.program.headers)
