@@ -10,3 +10,4 @@ pub mod Simulating
 pub mod Simulated
 pub mod Smallness
 pub mod Small
+pub mod Lexical
