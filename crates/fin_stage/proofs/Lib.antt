@@ -11,3 +11,4 @@ pub mod Simulated
 pub mod Smallness
 pub mod Small
 pub mod Lexical
+pub mod Touching
