@@ -12,3 +12,5 @@ pub mod Smallness
 pub mod Small
 pub mod Lexical
 pub mod Touching
+pub mod Declaring
+pub mod Tracking
