@@ -21,23 +21,11 @@ use Rattle.fin_ast.specs.declared.checked.Dims.{Dims}
 use Rattle.fin_ast.specs.Ties.{Node, Dimension, OfLoop, Extents, Shapes, known, number_in, HasExtent}
 use Rattle.fin_ast.specs.Sizes.{broken, first_of, is_large, has_large, large_in_header, large_in_place, first_large, number_of, shape_from, shape_of, shapes_from, range_of, ranges_of, too_dense, first_dense, outside, first_unknown}
 use Rattle.fin_ast.specs.Choices.{first_in, crowds_of}
+use Rattle.fin_ast.proofs.Unbroken.{first_none, second_none, unbroken}
 use Rattle.fin_ast.specs.Infer.{given, shapes_in, places_in, large_in, breach_in, dims_in, IsInferred}
 use Rattle.fin_ast.specs.Shaped.{AreShaped, AreRanged, AreSmallShapes, FitHeaders, FoundFit}
 
--- ---- no breach
-
-first_none : (a b : Option Refusal) → option_or a b ≡ None → a ≡ None
-first_none None b e = refl
-first_none (Some r) b e = cc
-
-second_none : (a b : Option Refusal) → option_or a b ≡ None → b ≡ None
-second_none None b e = e
-second_none (Some r) b e = cc
-
-unbroken : (b : Bool) (rule : Rule) (line : ℕ) → broken b rule line ≡ None → b ≡ false
-unbroken true rule line e = cc
-unbroken false rule line e = refl
-
+-- ---- tests
 neither : (a b : Bool) → (a || b) ≡ false → b ≡ false
 neither true b e = cc
 neither false b e = e

@@ -1,21 +1,25 @@
 -- How a mode ends, by what is due.
-use Rattle.std.proofs.Common.{◌^◌, ◌≡◌, ◌≢◌, ◌∙◌, ◌≤◌, ℕ, ℤ, List, [], length, refl, sym, ap, ap₂, subst, inl, inr, arith}
-use Rattle.std.specs.Prelude.{Ok, Err, Result, true}
+use Rattle.std.proofs.Common.{◌≡◌, ◌<◌, ◌≤◌, ℕ, List, [], length, sym, ap, ap₂, subst, inl, inr, arith}
+use Rattle.std.specs.Prelude.{All, Ok, Err, Result}
 use Rattle.std.specs.Io.KnownBytes.{Appends}
 use Rattle.std.proofs.KnownBytes.{Appends-nil}
 use Rattle.fin_base.specs.declared.refusal.Refusal.{Refusal}
-use Rattle.fin_form.specs.declared.first_form.FirstForm.{FirstForm}
-use Rattle.fin_form.specs.FirstForm.{IsJob}
-use Rattle.fin_form.specs.Lines.{none}
-use Rattle.fin_text.specs.Tensors.{tensor_text}
+use Rattle.fin_engine.specs.declared.job.Job.{Job}
+use Rattle.fin_tensor.specs.declared.outputs.Outputs.{Outputs}
 use Rattle.fin_tensor.specs.declared.storage.Storage.{Storage}
 use Rattle.fin_base.specs.declared.refusal.Fail.{Fail}
+use Rattle.fin_base.specs.declared.refusal.Rule.TheVariants.{B2}
 use Rattle.fin_base.specs.declared.refusal.Fail.TheVariants as fails
 use Rattle.fin_ports.specs.Bytes.{most}
 use Rattle.fin_words.specs.declared.mode.Mode.{Mode}
 use Rattle.fin_words.specs.declared.mode.Mode.TheVariants.{Run, Check, Plain, Gen}
-use Rattle.fin_engine.specs.Verdict.{Accepts, Checks}
-use Rattle.fin_cli.specs.Due.{Due, IsDueForm, IsDueMode, IsDueRead, IsDueThen, done, refused}
+use Rattle.fin_ast.specs.Dense.{function_of}
+use Rattle.fin_ast.specs.declared.checked.Checked.{Checked}
+use Rattle.fin_ast.specs.declared.header.Header.{Header}
+use Rattle.fin_dense.specs.Plain.{IsOver, IsPlain, Plains}
+use Rattle.fin_dense.proofs.OnePlain.{stored_below}
+use Rattle.fin_engine.specs.Verdict.{Accepts, Checks, IsJob}
+use Rattle.fin_cli.specs.Due.{Due, IsDueMode, IsDueOutput, IsDueRead, IsDueThen, done, outputs_text, refused}
 use Rattle.fin_cli.specs.Ends.{Across, Took}
 use Rattle.fin_cli.specs.Stops.{Comes, Fails, Refuses}
 use Rattle.fin_cli.specs.declared.outcome.Answer.{Answer}
@@ -32,15 +36,14 @@ refuses_comes refusal (Ok answer) source out Is h same is = (refused refusal.rul
 refuses_comes refusal (Err stop) source out Is h same is = subst (λ s. Comes source out Is (Err s)) (sym h) (inl (nothing out same))
 
 -- what is due for a job has status 0 or 1
-low_form : (job : List ℕ) (due : Due) → IsDueForm job due → due.status ≤ 1
-low_form job due (IsDueForm.outside h) = omega arith
-low_form job due (IsDueForm.differs form h ne) = omega arith
-low_form job due (IsDueForm.runs form h e s canon) = omega arith
+low_output : (text : List ℕ) (due : Due) → IsDueOutput text due → due.status ≤ 1
+low_output text due (IsDueOutput.over job h over) = omega arith
+low_output text due (IsDueOutput.whole job outputs h is) = omega arith
 
 low_then : (mode : Mode) (job : List ℕ) (due : Due) → IsDueThen mode job due → due.status ≤ 1
-low_then Run job due h = low_form job due h
+low_then Run job due h = low_output job due h
 low_then Check job due h = omega (arith, ap (λ d. d.status) h)
-low_then Plain job due h = omega (arith, ap (λ d. d.status) h)
+low_then Plain job due h = low_output job due h
 low_then Gen job due h = omega (arith, ap (λ d. d.status) h)
 
 low_read : (mode : Mode) (job : List ℕ) (due : Due) → IsDueRead job (IsDueThen mode job) due → due.status ≤ 1
@@ -67,16 +70,33 @@ pub comes_failed : (job : List ℕ) (Next : Due → Type 0) (source out : Across
 comes_failed job Next source out (fails.Refused refusal) r few breaks h same = refuses_comes refusal r source out (IsDueRead job Next) h same (IsDueRead.breaks refusal.rule refusal.line few breaks)
 comes_failed job Next source out (fails.Memory e) r few breaks h same = subst (Comes source out (IsDueRead job Next)) (sym h) (inl (nothing out same))
 
--- a form has as many values as its extents say
-pub whole_left : (job : List ℕ) (form : FirstForm) → IsJob job form → length form.left.values ≡ form.left.extent
-whole_left job form is = (is.met 10 none (omega arith)).0
+-- a job whose evaluation is over its limits
+pub comes_over : (text : List ℕ) (job : Job) (inputs : List Storage) (source out : Across) (fail : Fail) (r : Result Answer Stop) → IsJob text job → inputs ≡ job.inputs
+    → Plains job.checked inputs (Err fail) → Fails fail r → out.after ≡ out.before → Comes source out (IsDueOutput text) r
+comes_over text job inputs source out (fails.Refused refusal) r is given over h same =
+    refuses_comes (record { rule = B2; line = 0 }) r source out (IsDueOutput text) (subst (λ (x : Refusal). Refuses x r) over.0 h) same
+    (IsDueOutput.over job is (subst (IsOver job.checked) given over.1))
+comes_over text job inputs source out (fails.Memory e) r is given over h same = subst (Comes source out (IsDueOutput text)) (sym h) (inl (nothing out same))
 
-pub whole_right : (job : List ℕ) (form : FirstForm) → IsJob job form → length form.right.values ≡ form.right.extent
-whole_right job form is = (is.met 16 none (omega arith)).0
+-- what is due for a job with the outputs that were computed
+abbrev pub due_outputs : Job → Outputs → Due
+due_outputs job outputs = done (outputs_text job.checked.program.headers outputs.tensors)
 
-pub small_extent : (job : List ℕ) (form : FirstForm) → IsJob job form → form.left.extent ≤ 2 ^ 40
-small_extent job form is = is.met 9 none (omega arith)
+-- it is due
+pub due_is : (text : List ℕ) (job : Job) (inputs : List Storage) (outputs : Outputs) → IsJob text job → inputs ≡ job.inputs → IsPlain job.checked inputs outputs
+    → IsDueOutput text (due_outputs job outputs)
+due_is text job inputs outputs is given plain = IsDueOutput.whole job outputs is (subst (λ (x : List Storage). IsPlain job.checked x outputs) given plain)
 
--- what is due for a form of a job, with the storage that was computed
-abbrev pub due_text : FirstForm → Storage → Due
-due_text form storage = done (tensor_text form.product storage)
+-- the text that is written is the text that is due
+pub text_is : (job : Job) (outputs : Outputs) (headers : List Header) (written : List (ℕ × Storage)) → headers ≡ job.checked.program.headers → written ≡ outputs.tensors
+    → outputs_text headers written ≡ (due_outputs job outputs).out
+text_is job outputs headers written h o = ap₂ outputs_text h o
+
+-- the number of each output is that of a header
+pub are_named : (c : Checked) (inputs : List Storage) (outputs : Outputs) (headers : List Header) (written : List (ℕ × Storage)) → IsPlain c inputs outputs
+    → headers ≡ c.program.headers → written ≡ outputs.tensors → All (λ (output : ℕ × Storage). output.0 < length headers) written
+are_named c inputs outputs headers written is h o =
+    let there : All (λ (output : ℕ × Storage). output.0 < length c.program.headers) outputs.tensors =
+    λ k d lt. omega (arith, stored_below (function_of c inputs) 0 c.program.headers outputs.tensors k d is.stored lt) in
+    subst (λ (hs : List Header). All (λ (output : ℕ × Storage). output.0 < length hs) written) (sym h)
+    (subst (All (λ (output : ℕ × Storage). output.0 < length c.program.headers)) (sym o) there)

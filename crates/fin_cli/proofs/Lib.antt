@@ -4,5 +4,3 @@ pub mod Jobs
 pub mod OneDue
 pub mod Promised
 pub mod Serving
-pub mod Turns
-pub mod Vectors

@@ -1,51 +1,36 @@
 -- One answer is due.
-use Rattle.std.proofs.Common.{◌≡◌, ◌∙◌, ℕ, List, Some, None, refl, sym, ap, ap₂, subst, arith}
+use Rattle.std.proofs.Common.{◌≡◌, ◌∙◌, ℕ, List, Some, None, refl, sym, ap₂, subst, arith}
 use Rattle.std.specs.declared.option.Option.{Option}
-use Rattle.fin_engine.proofs.Verdicts.{accepted_or_not, one_breach}
-use Rattle.fin_form.specs.FirstForm.{IsJob}
-use Rattle.fin_form.specs.declared.first_form.FirstForm.{FirstForm}
-use Rattle.fin_form.proofs.FormLaws.{one_form}
-use Rattle.fin_text.specs.Tensors.{tensor_text}
-use Rattle.fin_tensor.specs.Canon.{IsCanon}
-use Rattle.fin_tensor.specs.TensorFunction.{TensorFunction}
-use Rattle.fin_tensor.specs.declared.format.Format.{Format}
-use Rattle.fin_tensor.specs.declared.storage.Storage.{Storage}
-use Rattle.fin_tensor.proofs.Same.{same_storage}
-use Rattle.fin_cli.specs.Dense.{dense_vector, product_of}
+use Rattle.fin_dense.specs.Plain.{IsOver, IsPlain}
+use Rattle.fin_dense.proofs.OnePlain.{one_plain, plain_or_over}
+use Rattle.fin_engine.specs.declared.job.Job.{Job}
+use Rattle.fin_engine.proofs.Verdicts.{accepted_or_not, one_breach, one_job}
+use Rattle.fin_tensor.specs.declared.outputs.Outputs.{Outputs}
 use Rattle.fin_words.specs.declared.mode.Asked.{Asked}
 use Rattle.fin_words.specs.declared.mode.Mode.{Mode}
 use Rattle.fin_words.specs.declared.mode.Mode.TheVariants.{Run, Check, Plain, Gen}
-use Rattle.fin_cli.specs.Due.{Due, IsDue, IsDueForm, IsDueMode, IsDueRead, IsDueThen, done, refused}
+use Rattle.fin_cli.specs.Due.{Due, IsDue, IsDueMode, IsDueOutput, IsDueRead, IsDueThen, done, outputs_text, refused}
 
--- the extents of a job's form differ or they don't
-same_extents : (job : List ℕ) (f g : FirstForm) → IsJob job f → IsJob job g → f.left.extent ≡ f.right.extent → g.left.extent ≡ g.right.extent
-same_extents job f g h k e = let same : f ≡ g = one_form job f g h k in sym (ap (λ x. x.left.extent) same) ∙ e ∙ ap (λ x. x.right.extent) same
+-- a job's outputs are one, or it is over the limits
+one_text : (j k : Job) (o p : Outputs) → j ≡ k → IsPlain j.checked j.inputs o → IsPlain k.checked k.inputs p
+    → done (outputs_text j.checked.program.headers o.tensors) ≡ done (outputs_text k.checked.program.headers p.tensors)
+one_text j k o p e h l =
+    let same : o ≡ p = one_plain k.checked k.inputs o p (subst (λ (x : Job). IsPlain x.checked x.inputs o) e h) l in
+    ap₂ (λ (x : Job) (y : Outputs). done (outputs_text x.checked.program.headers y.tensors)) e same
 
--- a form has one canonical storage, and so one text
-one_storage : (format : Format) (f : TensorFunction) (s t : Storage) → IsCanon format f s → IsCanon format f t → s ≡ t
-one_storage format f s t h k = same_storage s t (h.format_is ∙ sym k.format_is) (h.shape ∙ sym k.shape) (h.parts ∙ sym k.parts) (h.val ∙ sym k.val)
+not_both : (j k : Job) (o : Outputs) → j ≡ k → IsPlain j.checked j.inputs o → IsOver k.checked k.inputs → ⊥
+not_both j k o e h over = plain_or_over k.checked k.inputs o (subst (λ (x : Job). IsPlain x.checked x.inputs o) e h) over
 
-one_text : (f g : FirstForm) (s t : Storage) → f ≡ g → IsCanon dense_vector (product_of f) s → IsCanon dense_vector (product_of g) t
-    → done (tensor_text f.product s) ≡ done (tensor_text g.product t)
-one_text f g s t e h k =
-    let same : s ≡ t = one_storage dense_vector (product_of g) s t (subst (λ x. IsCanon dense_vector (product_of x) s) e h) k in
-    ap₂ (λ x y. done (tensor_text x.product y)) e same
-
-one_form_due : (job : List ℕ) (d e : Due) → IsDueForm job d → IsDueForm job e → d ≡ e
-one_form_due job d e (IsDueForm.outside h) (IsDueForm.outside k) = refl
-one_form_due job d e (IsDueForm.outside h) (IsDueForm.differs g k ne) = absurd (h g k)
-one_form_due job d e (IsDueForm.outside h) (IsDueForm.runs g k same t other) = absurd (h g k)
-one_form_due job d e (IsDueForm.differs f h ne) (IsDueForm.outside k) = absurd (k f h)
-one_form_due job d e (IsDueForm.differs f h ne) (IsDueForm.differs g k other) = refl
-one_form_due job d e (IsDueForm.differs f h ne) (IsDueForm.runs g k same t other) = absurd (ne (same_extents job g f k h same))
-one_form_due job d e (IsDueForm.runs f h same s canon) (IsDueForm.outside k) = absurd (k f h)
-one_form_due job d e (IsDueForm.runs f h same s canon) (IsDueForm.differs g k ne) = absurd (ne (same_extents job f g h k same))
-one_form_due job d e (IsDueForm.runs f h same s canon) (IsDueForm.runs g k again t other) = one_text f g s t (one_form job f g h k) canon other
+one_output : (text : List ℕ) (d e : Due) → IsDueOutput text d → IsDueOutput text e → d ≡ e
+one_output text d e (IsDueOutput.over j h over) (IsDueOutput.over k l more) = refl
+one_output text d e (IsDueOutput.over j h over) (IsDueOutput.whole k o l is) = absurd (not_both k j o (one_job text k j l h) is over)
+one_output text d e (IsDueOutput.whole j o h is) (IsDueOutput.over k l over) = absurd (not_both j k o (one_job text j k h l) is over)
+one_output text d e (IsDueOutput.whole j o h is) (IsDueOutput.whole k p l more) = one_text j k o p (one_job text j k h l) is more
 
 one_then : (mode : Mode) (job : List ℕ) (d e : Due) → IsDueThen mode job d → IsDueThen mode job e → d ≡ e
-one_then Run job d e h k = one_form_due job d e h k
+one_then Run job d e h k = one_output job d e h k
 one_then Check job d e h k = h ∙ sym k
-one_then Plain job d e h k = h ∙ sym k
+one_then Plain job d e h k = one_output job d e h k
 one_then Gen job d e h k = h ∙ sym k
 
 one_read : (mode : Mode) (job : List ℕ) (d e : Due) → IsDueRead job (IsDueThen mode job) d → IsDueRead job (IsDueThen mode job) e → d ≡ e

@@ -1,61 +1,70 @@
 -- What follows from how a call ends.
-use Rattle.std.proofs.Common.{◌≡◌, ◌∙◌, ◌≤◌, ◌⊎◌, ℕ, List, [], length, false, refl, sym, ap, subst, inl, inr, arith}
+use Rattle.std.proofs.Common.{◌≡◌, ◌∙◌, ◌≤◌, ◌⊎◌, ℕ, List, [], length, Bool, true, false, refl, sym, ap, subst, inl, inr, arith}
 use Rattle.std.specs.Prelude.{Some, None, IfSome, Option}
 use Rattle.std.proofs.lemmas.Bool.{cases_eq, cases_lt}
 use Rattle.fin_ports.specs.Bytes.{most}
-use Rattle.fin_form.specs.FirstForm.{IsJob}
-use Rattle.fin_form.specs.declared.first_form.FirstForm.{FirstForm}
 use Rattle.fin_words.specs.declared.mode.Asked.{Asked}
 use Rattle.fin_words.specs.declared.mode.Mode.{Mode}
 use Rattle.fin_words.specs.declared.mode.Mode.TheVariants.{Run, Check, Plain, Gen}
-use Rattle.fin_text.specs.Tensors.{tensor_text}
-use Rattle.fin_tensor.specs.Canon.{IsCanon}
-use Rattle.fin_tensor.specs.declared.storage.Storage.{Storage}
-use Rattle.fin_cli.specs.Dense.{dense_vector, product_of}
-use Rattle.fin_cli.specs.Due.{Due, IsDue, IsDueForm, IsDueMode, IsDueRead, IsDueThen, reads_job, unread}
+use Rattle.fin_dense.specs.Plain.{IsPlain}
+use Rattle.fin_engine.specs.Verdict.{IsJob}
+use Rattle.fin_engine.specs.declared.job.Job.{Job}
+use Rattle.fin_tensor.specs.declared.outputs.Outputs.{Outputs}
+use Rattle.fin_cli.specs.Due.{Due, IsDue, IsDueMode, IsDueOutput, IsDueRead, IsDueThen, outputs_text, reads_job, unread}
 use Rattle.fin_cli.specs.Ends.{Across, Serves, Took}
 use Rattle.fin_cli.specs.Promises.{Completes, HasCauses, IsSilent, IsUnasked, UsesExactly, WritesExactly}
 use Rattle.fin_cli.proofs.Comings.{low_due}
 use Rattle.fin_cli.proofs.OneDue.{one_due}
 
--- a due status of 0 is a run's
-record Runs (job : List ℕ) (due : Due) : Type 0 where
-  few : length job ≤ most
-  form : FirstForm
-  stands : IsJob job form
-  same : form.left.extent ≡ form.right.extent
-  storage : Storage
-  canon : IsCanon dense_vector (product_of form) storage
-  text : due.out ≡ tensor_text form.product storage
+-- where status 0 is due in a mode that writes outputs, they are those of a job
+record Written (text : List ℕ) (due : Due) : Type 0 where
+  few : length text ≤ most
+  job : Job
+  stands : IsJob text job
+  outputs : Outputs
+  plain : IsPlain job.checked job.inputs outputs
+  text_is : due.out ≡ outputs_text job.checked.program.headers outputs.tensors
 
-form_runs : (job : List ℕ) (due : Due) → length job ≤ most → IsDueForm job due → due.status ≡ 0 → Runs job due
-form_runs job due few (IsDueForm.outside h) zero = absurd (omega arith)
-form_runs job due few (IsDueForm.differs form h ne) zero = absurd (omega arith)
-form_runs job due few (IsDueForm.runs form h e s canon) zero = record { few = few; form = form; stands = h; same = e; storage = s; canon = canon; text = refl }
+output_written : (text : List ℕ) (due : Due) → length text ≤ most → IsDueOutput text due → due.status ≡ 0 → Written text due
+output_written text due few (IsDueOutput.over job h over) zero = absurd (omega arith)
+output_written text due few (IsDueOutput.whole job outputs h is) zero = record { few = few; job = job; stands = h; outputs = outputs; plain = is; text_is = refl }
 
-job_runs : (job : List ℕ) (due : Due) → IsDueRead job (IsDueForm job) due → due.status ≡ 0 → Runs job due
-job_runs job due (IsDueRead.too_long many) zero = absurd (omega arith)
-job_runs job due (IsDueRead.breaks rule line few h) zero = absurd (omega arith)
-job_runs job due (IsDueRead.passes d few a next) zero = form_runs job due few next zero
+read_written : (text : List ℕ) (due : Due) → IsDueRead text (IsDueOutput text) due → due.status ≡ 0 → Written text due
+read_written text due (IsDueRead.too_long many) zero = absurd (omega arith)
+read_written text due (IsDueRead.breaks rule line few h) zero = absurd (omega arith)
+read_written text due (IsDueRead.passes d few a next) zero = output_written text due few next zero
 
-mode_runs : (mode : Mode) (job : List ℕ) (due : Due) → mode ≡ Run → IsDueMode mode job due → due.status ≡ 0 → Runs job due
-mode_runs Run job due e is zero = job_runs job due is zero
-mode_runs Check job due e is zero = cc
-mode_runs Plain job due e is zero = cc
-mode_runs Gen job due e is zero = cc
+abbrev pub writes_outputs : Mode → Bool
+writes_outputs Run = true
+writes_outputs Check = false
+writes_outputs Plain = true
+writes_outputs Gen = false
 
-pub writes_exactly : (asked : Option Asked) (source out err : Across) (status : ℕ) → Serves asked source out err status → WritesExactly asked source out status
-writes_exactly None source out err status (job, reads, ends) a is run zero = cc
-writes_exactly (Some asked) source out err status (job, reads, ends) a is run zero =
+mode_written : (mode : Mode) (text : List ℕ) (due : Due) → writes_outputs mode ≡ true → IsDueMode mode text due → due.status ≡ 0 → Written text due
+mode_written Run text due e is zero = read_written text due is zero
+mode_written Check text due e is zero = cc
+mode_written Plain text due e is zero = read_written text due is zero
+mode_written Gen text due e is zero = cc
+
+read_where_written : (mode : Mode) → writes_outputs mode ≡ true → reads_job mode ≡ true
+read_where_written Run e = refl
+read_where_written Check e = refl
+read_where_written Plain e = refl
+read_where_written Gen e = cc
+
+pub writes_exactly : (mode : Mode) (asked : Option Asked) (source out err : Across) (status : ℕ) → writes_outputs mode ≡ true → Serves asked source out err status → WritesExactly mode asked source out status
+writes_exactly mode None source out err status writes (text, reads, ends) a is asks zero = cc
+writes_exactly mode (Some asked) source out err status writes (text, reads, ends) a is asks zero =
     let small : status ≤ 2 = omega arith in
     let f = ends.finished small in
     let due = f.0 in
     let due_zero : due.status ≡ 0 = sym f.2.0 ∙ zero in
     let same : asked ≡ a = cc in
-    let asks : asked.mode ≡ Run = ap (λ x. x.mode) same ∙ run in
-    let r = mode_runs asked.mode job due asks f.1 due_zero in
-    let whole = reads.whole (ap reads_job asks) small r.few in
-    (job, reads.told, whole.0, whole.1, r.form, r.stands, r.same, r.storage, r.canon, subst (Took out) r.text f.2.1)
+    let in_mode : asked.mode ≡ mode = ap (λ x. x.mode) same ∙ asks in
+    let here : writes_outputs asked.mode ≡ true = ap writes_outputs in_mode ∙ writes in
+    let w = mode_written asked.mode text due here f.1 due_zero in
+    let whole = reads.whole (read_where_written asked.mode here) small w.few in
+    (text, reads.told, whole.0, whole.1, w.job, w.stands, w.outputs, w.plain, subst (Took out) w.text_is f.2.1)
 
 told_is : (before : Option (List ℕ)) (job x : List ℕ) → before ≡ Some job → IfSome before (λ bytes. x ≡ bytes) → x ≡ job
 told_is None job x e h = cc
@@ -112,15 +121,14 @@ uses_exactly asked source out err status (job, reads, ends) unasked = (
   unasked,
 )
 
-form_silent : (job : List ℕ) (due : Due) → IsDueForm job due → 1 ≤ due.status → due.out ≡ []
-form_silent job due (IsDueForm.outside h) some = refl
-form_silent job due (IsDueForm.differs form h ne) some = refl
-form_silent job due (IsDueForm.runs form h e s canon) some = absurd (omega arith)
+output_silent : (text : List ℕ) (due : Due) → IsDueOutput text due → 1 ≤ due.status → due.out ≡ []
+output_silent text due (IsDueOutput.over job h over) some = refl
+output_silent text due (IsDueOutput.whole job outputs h is) some = absurd (omega arith)
 
 then_silent : (mode : Mode) (job : List ℕ) (due : Due) → IsDueThen mode job due → 1 ≤ due.status → due.out ≡ []
-then_silent Run job due h some = form_silent job due h some
+then_silent Run job due h some = output_silent job due h some
 then_silent Check job due h some = absurd (omega (arith, ap (λ d. d.status) h))
-then_silent Plain job due h some = ap (λ d. d.out) h
+then_silent Plain job due h some = output_silent job due h some
 then_silent Gen job due h some = ap (λ d. d.out) h
 
 read_silent : (mode : Mode) (job : List ℕ) (due : Due) → IsDueRead job (IsDueThen mode job) due → 1 ≤ due.status → due.out ≡ []

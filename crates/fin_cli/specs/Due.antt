@@ -1,20 +1,20 @@
 -- What is due: a status, a text on the output, and a line on the error output, for the words and the bytes of the job.
-use Rattle.std.specs.Prelude.{◌≡◌, ◌≢◌, ℕ, ◌<◌, ◌≤◌, Bool, true, false, List, [], ◌∷◌, ◌++◌, length, Option, Some, None, codes}
+use Rattle.std.specs.Prelude.{◌≡◌, ℕ, ◌<◌, ◌≤◌, Bool, true, false, List, [], ◌∷◌, ◌++◌, length, Option, Some, None, codes, flat_map, option_map, unwrap_or, slice_get}
 use Rattle.std.specs.Fmt.{decimal}
 use Rattle.fin_base.specs.declared.refusal.Refusal.{Refusal}
 use Rattle.fin_base.specs.declared.refusal.Rule.{Rule}
 use Rattle.fin_base.specs.declared.refusal.Rule.TheVariants.{J1, J2, S1, S2, S3, N1, N2, N3, F1, F2, X1, X2, X3, X4, X5, X6, L1, L2, L3, L4, L5, L6, L7, M1, M2, M3, M4, M5, B1, B2, B3, U1, U2, C1, C2, C3, C4, C5, W1}
 use Rattle.fin_ports.specs.Bytes.{most}
-use Rattle.fin_form.specs.declared.first_form.FirstForm.{FirstForm}
-use Rattle.fin_form.specs.FirstForm.{IsJob}
 use Rattle.fin_words.specs.declared.mode.Asked.{Asked}
 use Rattle.fin_words.specs.declared.mode.Mode.{Mode}
 use Rattle.fin_words.specs.declared.mode.Mode.TheVariants.{Run, Check, Plain, Gen}
-use Rattle.fin_engine.specs.Verdict.{Accepts, Breaks}
-use Rattle.fin_text.specs.Tensors.{tensor_text}
-use Rattle.fin_tensor.specs.Canon.{IsCanon}
+use Rattle.fin_ast.specs.declared.header.Header.{Header}
+use Rattle.fin_dense.specs.Plain.{IsOver, IsPlain}
+use Rattle.fin_engine.specs.Verdict.{Accepts, Breaks, IsJob}
+use Rattle.fin_engine.specs.declared.job.Job.{Job}
+use Rattle.fin_tensor.specs.declared.outputs.Outputs.{Outputs}
 use Rattle.fin_tensor.specs.declared.storage.Storage.{Storage}
-use Rattle.fin_cli.specs.Dense.{dense_vector, product_of}
+use Rattle.fin_text.specs.Tensors.{tensor_text}
 
 pub record Due : Type 0 where
   pub status : ℕ
@@ -82,6 +82,19 @@ rule_text W1 = codes "W1"
 abbrev pub refusal_text : Refusal → List ℕ
 refusal_text r = line (codes "refused " ++ rule_text r.rule ++ codes " line " ++ decimal r.line)
 
+-- ---- outputs
+
+abbrev pub name_of : List Header → ℕ → List ℕ
+name_of headers tensor = unwrap_or (option_map (λ (h : Header). h.name) (slice_get headers tensor)) []
+
+-- the text of an output, under its header's name
+abbrev pub output_text : List Header → ℕ × Storage → List ℕ
+output_text headers output = tensor_text (name_of headers output.0) output.1
+
+-- the texts of outputs, one after another
+abbrev pub outputs_text : List Header → List (ℕ × Storage) → List ℕ
+outputs_text headers outputs = flat_map (output_text headers) outputs
+
 -- ---- what is due
 
 abbrev pub done : List ℕ → Due
@@ -93,13 +106,11 @@ refused rule line = record { status = 1; out = []; err = refusal_text (record { 
 abbrev pub unread : Due
 unread = record { status = 2; out = []; err = usage }
 
--- what is due for a job that breaks none of the rules so far, in a run: it has to be of the first form, and then it is the canonical
--- storage text of what dense evaluation gives
-pub data IsDueForm (job : List ℕ) : Due → Type 0 where
-  outside : ((form : FirstForm) → ¬ (IsJob job form)) → IsDueForm job (refused S2 0)
-  differs : (form : FirstForm) → IsJob job form → form.left.extent ≢ form.right.extent → IsDueForm job (refused M1 5)
-  runs : (form : FirstForm) → IsJob job form → form.left.extent ≡ form.right.extent
-      → (storage : Storage) → IsCanon dense_vector (product_of form) storage → IsDueForm job (done (tensor_text form.product storage))
+-- what is due for the outputs of a job that breaks none of the rules so far: B2 where dense evaluation is over its limits, else
+-- the text of each output, in canonical storage, of what it gives
+pub data IsDueOutput (text : List ℕ) : Due → Type 0 where
+  over : (job : Job) → IsJob text job → IsOver job.checked job.inputs → IsDueOutput text (refused B2 0)
+  whole : (job : Job) (outputs : Outputs) → IsJob text job → IsPlain job.checked job.inputs outputs → IsDueOutput text (done (outputs_text job.checked.program.headers outputs.tensors))
 
 -- what is due for a job that is read: its first breach, or else what is due then
 pub data IsDueRead (job : List ℕ) (Next : Due → Type 0) : Due → Type 0 where
@@ -109,9 +120,9 @@ pub data IsDueRead (job : List ℕ) (Next : Due → Type 0) : Due → Type 0 whe
 
 -- what is due then, by the mode
 abbrev pub IsDueThen : Mode → List ℕ → Due → Type 0
-IsDueThen Run job due = IsDueForm job due
+IsDueThen Run job due = IsDueOutput job due
 IsDueThen Check job due = due ≡ done (line (codes "ok"))
-IsDueThen Plain job due = due ≡ refused S2 0
+IsDueThen Plain job due = IsDueOutput job due
 IsDueThen Gen job due = due ≡ refused S2 0
 
 -- a job is read, but for `gen`

@@ -1,4 +1,3 @@
-pub mod Dense
 pub mod Due
 pub mod Ends
 pub mod Promises

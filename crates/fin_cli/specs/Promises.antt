@@ -1,25 +1,23 @@
 -- What a call promises, in plain words.
 use Rattle.std.specs.Prelude.{◌≡◌, ℕ, ◌≤◌, ◌⊎◌, List, [], IfSome, Some, None}
 use Rattle.std.specs.Io.KnownBytes.{Consumes, IsAtEnd, Keeps}
-use Rattle.fin_form.specs.FirstForm.{IsJob}
-use Rattle.fin_form.specs.declared.first_form.FirstForm.{FirstForm}
 use Rattle.std.specs.declared.option.Option.{Option}
 use Rattle.fin_words.specs.declared.mode.Asked.{Asked}
-use Rattle.fin_words.specs.declared.mode.Mode.TheVariants.{Run}
-use Rattle.fin_cli.specs.Due.{Due, IsDue, usage}
-use Rattle.fin_text.specs.Tensors.{tensor_text}
-use Rattle.fin_tensor.specs.Canon.{IsCanon}
-use Rattle.fin_tensor.specs.declared.storage.Storage.{Storage}
-use Rattle.fin_cli.specs.Dense.{dense_vector, product_of}
+use Rattle.fin_words.specs.declared.mode.Mode.{Mode}
+use Rattle.fin_dense.specs.Plain.{IsPlain}
+use Rattle.fin_engine.specs.Verdict.{IsJob}
+use Rattle.fin_engine.specs.declared.job.Job.{Job}
+use Rattle.fin_tensor.specs.declared.outputs.Outputs.{Outputs}
+use Rattle.fin_cli.specs.Due.{Due, IsDue, outputs_text, usage}
 use Rattle.fin_cli.specs.Ends.{Across, Failed, Took}
 
--- A run with status 0: the output took exactly the canonical storage text of what dense evaluation gives for the job that the source
--- had left, and the source was read to its end.
-abbrev pub WritesExactly : Option Asked → Across → Across → ℕ → Type 0
-WritesExactly asked source out status = (a : Asked) → asked ≡ Some a → a.mode ≡ Run → status ≡ 0 →
-    (job : List ℕ) × IfSome source.before (λ bytes. job ≡ bytes) × Consumes source.before source.after job × IsAtEnd source.after
-    × (form : FirstForm) × IsJob job form × (form.left.extent ≡ form.right.extent)
-    × (storage : Storage) × IsCanon dense_vector (product_of form) storage × Took out (tensor_text form.product storage)
+-- In this mode, status 0: the source was read to its end, and the output took exactly, for the job whose text it had left, the
+-- text of each output in the order of headers, which is that of the canonical storage of the function that dense evaluation gives.
+abbrev pub WritesExactly : Mode → Option Asked → Across → Across → ℕ → Type 0
+WritesExactly mode asked source out status = (a : Asked) → asked ≡ Some a → a.mode ≡ mode → status ≡ 0 →
+    (text : List ℕ) × IfSome source.before (λ bytes. text ≡ bytes) × Consumes source.before source.after text × IsAtEnd source.after
+    × (job : Job) × IsJob text job × (outputs : Outputs) × IsPlain job.checked job.inputs outputs
+    × Took out (outputs_text job.checked.program.headers outputs.tensors)
 
 -- Where no count of faults rose, the call ends as it is due for the bytes that the source had left, or by want of memory.
 abbrev pub Completes : Option Asked → Across → Across → Across → ℕ → Type 0

@@ -6,11 +6,11 @@
 //! call ends by what is due for the words and the job, or for want of memory.
 #![tactic(auto)]
 
-mod evaluate;
 mod line;
 mod memory;
 mod modes;
 mod outcome;
+mod outputs;
 mod top;
 
 pub use fin_words::asks_workers;

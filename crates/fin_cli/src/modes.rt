@@ -1,62 +1,81 @@
 //! The modes, over the bytes of a job.
-ghost use Rattle.std.specs.Prelude.{◌≡◌, ◌≢◌, ◌≤◌, ◌^◌, ℕ, List, length};
+ghost use Rattle.std.specs.Prelude.{◌≡◌, ◌≢◌, ◌≤◌, ℕ, List, length};
+ghost use Rattle.fin_ast.specs.Shaped.{FitHeaders};
 ghost use Rattle.fin_ports.specs.Bytes.{most};
-ghost use Rattle.fin_form.specs.FirstForm.{IsJob};
-ghost use Rattle.fin_cli.specs.Due.{IsDueForm, IsDueRead, IsDueThen, refusal_text};
+ghost use Rattle.fin_engine.specs.Verdict.{IsJob};
+ghost use Rattle.fin_cli.specs.Due.{IsDueOutput, IsDueRead, IsDueThen, refusal_text};
 ghost use Rattle.fin_cli.specs.Ends.{Across, across};
 ghost use Rattle.fin_cli.specs.Stops.{Comes, Fails, Refuses};
 
-use crate::evaluate::product;
 use crate::line::refusal_text;
 use crate::outcome::{Answer, Stop};
-use fin_base::{Fail, Refusal, Rule};
-use fin_engine::check;
-use fin_form::{FirstForm, FormFail, read_first_form};
+use crate::outputs::write_outputs;
+use fin_base::{Fail, Refusal};
+use fin_dense::plain;
+use fin_engine::{Job, check};
 use fin_ports::{Failed, Sink, put_all};
-use fin_text::{WriteFail, write_tensor};
+use fin_text::WriteFail;
 use fin_words::Mode;
 use std::alloc::Global;
 
-/// Does with a job what a mode asks.
+/// Does with a job what a mode asks. The text of the job is let go as soon as it is read.
 pub(crate) fn serve_job<O: Sink>(
     alloc: Global,
     mode: Mode,
-    job: &[u8],
+    text: Vec<u8>,
     out: &mut O,
 ) -> Result<Answer, Stop>
-    requires job { length job.now ≤ most }
+    requires job { length text.items ≤ most }
     requires mode { mode ≢ Mode.Gen }
-    ensures comes { (source : Across) → Comes source (across (O.taken out.old) (O.taken out.new) (O.faults out.old) (O.faults out.new)) (IsDueRead job.now (IsDueThen mode job.now)) result }
+    ensures comes { (source : Across) → Comes source (across (O.taken out.old) (O.taken out.new) (O.faults out.old) (O.faults out.new)) (IsDueRead text.items (IsDueThen mode text.items)) result }
     ensures later { O.Later out.old out.new }
 {
-    if let Err(fail) = check(alloc, job) {
-        return failed(alloc, fail);
-    }
-    serve_accepted(alloc, mode, job, out)
+    let checked = check(alloc, &text);
+    drop(text);
+    let job = match checked {
+        Ok(job) => job,
+        Err(fail) => return failed(alloc, fail),
+    };
+    serve_accepted(alloc, mode, &job, out)
 }
 
 // The same for a job that breaks none of the rules.
 fn serve_accepted<O: Sink>(
     alloc: Global,
     mode: Mode,
-    job: &[u8],
+    job: &Job,
     out: &mut O,
 ) -> Result<Answer, Stop>
-    requires { mode ≢ Mode.Gen }
-    ensures comes { (source : Across) → Comes source (across (O.taken out.old) (O.taken out.new) (O.faults out.old) (O.faults out.new)) (IsDueThen mode job.now) result }
+    requires mode { mode ≢ Mode.Gen }
+    requires fits { FitHeaders job.now.checked.program.headers job.now.checked.dims }
+    ensures comes { (source : Across) (text : List ℕ) → IsJob text job.now → Comes source (across (O.taken out.old) (O.taken out.new) (O.faults out.old) (O.faults out.new)) (IsDueThen mode text) result }
     ensures later { O.Later out.old out.new }
 {
     match mode {
-        Mode::Run => run(alloc, job, out),
+        Mode::Run | Mode::Plain => evaluate(alloc, job, out),
         Mode::Check => accept(alloc, out),
-        Mode::Plain => refused(
-            alloc,
-            Refusal {
-                rule: Rule::S2,
-                line: 0,
-            },
-        ),
         Mode::Gen => unreachable!(),
+    }
+}
+
+// Evaluates a job and writes its outputs.
+fn evaluate<O: Sink>(alloc: Global, job: &Job, out: &mut O) -> Result<Answer, Stop>
+    requires fits { FitHeaders job.now.checked.program.headers job.now.checked.dims }
+    ensures comes { (source : Across) (text : List ℕ) → IsJob text job.now → Comes source (across (O.taken out.old) (O.taken out.new) (O.faults out.old) (O.faults out.new)) (IsDueOutput text) result }
+    ensures later { O.Later out.old out.new }
+{
+    let outputs = match plain(alloc, &job.checked, job.inputs.as_slice()) {
+        Ok(outputs) => outputs,
+        Err(over) => return failed(alloc, over),
+    };
+    let headers = job.checked.program.headers.as_slice();
+    match write_outputs(alloc, headers, outputs.tensors.as_slice(), out) {
+        Ok(()) => Ok(Answer {
+            status: 0,
+            line: String::new(alloc),
+        }),
+        Err(WriteFail::Fault) => Err(Stop::WriteFault),
+        Err(WriteFail::Memory(_)) => Err(Stop::Memory),
     }
 }
 
@@ -71,60 +90,6 @@ fn accept<O: Sink>(alloc: Global, out: &mut O) -> Result<Answer, Stop>
             line: String::new(alloc),
         }),
         Err(Failed) => Err(Stop::WriteFault),
-    }
-}
-
-// Runs a job of the first form.
-fn run<O: Sink>(alloc: Global, job: &[u8], out: &mut O) -> Result<Answer, Stop>
-    ensures comes { (source : Across) → Comes source (across (O.taken out.old) (O.taken out.new) (O.faults out.old) (O.faults out.new)) (IsDueForm job.now) result }
-    ensures later { O.Later out.old out.new }
-{
-    let form = match read_first_form(alloc, job) {
-        Ok(form) => form,
-        Err(FormFail::Departs(_)) => {
-            return refused(
-                alloc,
-                Refusal {
-                    rule: Rule::S2,
-                    line: 0,
-                },
-            );
-        }
-        Err(FormFail::Memory(_)) => return Err(Stop::Memory),
-    };
-    if form.left.extent != form.right.extent {
-        return refused(
-            alloc,
-            Refusal {
-                rule: Rule::M1,
-                line: 5,
-            },
-        );
-    }
-    run_form(alloc, &form, out)
-}
-
-// Evaluates the form and writes its product.
-fn run_form<O: Sink>(alloc: Global, form: &FirstForm, out: &mut O) -> Result<Answer, Stop>
-    requires same { form.now.left.extent ≡ form.now.right.extent }
-    requires small { form.now.left.extent ≤ 2 ^ 40 }
-    requires left { length form.now.left.values ≡ form.now.left.extent }
-    requires right { length form.now.right.values ≡ form.now.right.extent }
-    ensures comes { (source : Across) (job : List ℕ) → IsJob job form.now
-        → Comes source (across (O.taken out.old) (O.taken out.new) (O.faults out.old) (O.faults out.new)) (IsDueForm job) result }
-    ensures later { O.Later out.old out.new }
-{
-    let storage = match product(alloc, form) {
-        Ok(storage) => storage,
-        Err(_) => return Err(Stop::Memory),
-    };
-    match write_tensor(alloc, out, &form.product, &storage) {
-        Ok(()) => Ok(Answer {
-            status: 0,
-            line: String::new(alloc),
-        }),
-        Err(WriteFail::Fault) => Err(Stop::WriteFault),
-        Err(WriteFail::Memory(_)) => Err(Stop::Memory),
     }
 }
 

@@ -1,6 +1,9 @@
+mod rows;
+
 use crate::{finch, finch_one};
 use fin_ports::{MemSink, MemSource};
 use fin_words::asks_workers;
+use rows::{ENDLESS, LARGE, ROWS};
 use std::alloc::{AllocError, Global};
 use std::process::Abort;
 use std::test::Fail;
@@ -19,14 +22,6 @@ const EMPTY: &[u8] =
     b"in a dense element\nin b dense element\nout y dense element\ny .= 0\nfor i { y[i] += a[i] * b[i] }\n%%\ntensor a\nformat dense element\nfill 0\nshape 0\nval\nend\ntensor b\nformat dense element\nfill 0\nshape 0\nval\nend\n";
 
 const EMPTY_TEXT: &[u8] = b"tensor y\nformat dense element\nfill 0\nshape 0\nval\nend\n";
-
-const WRAPS: &[u8] =
-    b"in a dense element\nin b dense element\nout y dense element\ny .= 0\nfor i { y[i] += a[i] * b[i] }\n%%\ntensor a\nformat dense element\nfill 0\nshape 1\nval 9223372036854775807\nend\ntensor b\nformat dense element\nfill 0\nshape 1\nval 2\nend\n";
-
-const WRAPS_TEXT: &[u8] = b"tensor y\nformat dense element\nfill 0\nshape 1\nval -2\nend\n";
-
-const TWO_BLANKS: &[u8] =
-    b"in a dense element\nin b dense element\nout y dense element\ny .= 0\nfor  i { y[i] += a[i] * b[i] }\n%%\ntensor a\nformat dense element\nfill 0\nshape 3\nval 1 2 3\nend\ntensor b\nformat dense element\nfill 0\nshape 3\nval 4 5 6\nend\n";
 
 const USAGE: &[u8] =
     b"usage: finch run,check,plain,gen [--workers N] [--budget N] [--stats] [--seed N] [--size N]\n";
@@ -63,7 +58,7 @@ const REFUSED: Case = Case {
     ..RUN
 };
 
-const CASES: [Case; 19] = [
+const CASES: [Case; 18] = [
     RUN,
     Case { most: 1, ..RUN },
     Case {
@@ -81,16 +76,6 @@ const CASES: [Case; 19] = [
         ..RUN
     },
     Case {
-        job: WRAPS,
-        out: WRAPS_TEXT,
-        ..RUN
-    },
-    Case {
-        job: TWO_BLANKS,
-        err: b"refused S2 line 0\n",
-        ..REFUSED
-    },
-    Case {
         job: b"",
         err: b"refused J2 line 0\n",
         ..REFUSED
@@ -102,8 +87,15 @@ const CASES: [Case; 19] = [
     },
     Case {
         words: &["finch", "plain"],
-        err: b"refused S2 line 0\n",
-        ..REFUSED
+        ..RUN
+    },
+    Case {
+        words: &["finch", "plain"],
+        out_fails: &[2],
+        status: 4,
+        out: b"tensor y\nforma",
+        err: b"write fault\n",
+        ..RUN
     },
     Case {
         words: &["finch", "gen", "--size", "3"],
@@ -244,7 +236,7 @@ const BROKEN: [Case; 11] = [
 ];
 
 // Jobs whose texts break no rule, and that break one on inputs, lives, extents, choices or order.
-const LATER: [Case; 15] = [
+const LATER: [Case; 14] = [
     Case {
         job: b"in a dense element\n%%\n",
         err: b"refused X6 line 1\n",
@@ -317,11 +309,6 @@ const LATER: [Case; 15] = [
         out: b"ok\n",
         ..RUN
     },
-    Case {
-        job: b"out y dense element shape 2\ny .= 0\n%%\n",
-        err: b"refused S2 line 0\n",
-        ..REFUSED
-    },
 ];
 
 fn words(alloc: Global, texts: &[&str]) -> Result<Vec<String>, AllocError> {
@@ -344,6 +331,41 @@ fn ends_as(rt: &impl Abort, alloc: Global, case: &Case) -> Result<(), Fail> {
     assert_eq!(rt; status, case.status);
     assert_eq!(rt; out.taken(), case.out);
     assert_eq!(rt; err.taken(), case.err);
+    Ok(())
+}
+
+const MODES: [&[&str]; 2] = [&["finch", "run"], &["finch", "plain"]];
+
+#[test]
+fn each_job_is_served(rt: HostRuntime) -> Result<(), Fail> {
+    for row in &ROWS {
+        for words in MODES {
+            let case = Case {
+                words,
+                job: row.job,
+                out: row.out,
+                ..RUN
+            };
+            ends_as(&rt, rt.alloc(), &case)?;
+        }
+    }
+    Ok(())
+}
+
+// Evaluation stops at a turn too many, and an output that is too large isn't stored.
+#[test]
+fn limits_are_kept(rt: HostRuntime) -> Result<(), Fail> {
+    for job in [ENDLESS, LARGE] {
+        for words in MODES {
+            let case = Case {
+                words,
+                job,
+                err: b"refused B2 line 0\n",
+                ..REFUSED
+            };
+            ends_as(&rt, rt.alloc(), &case)?;
+        }
+    }
     Ok(())
 }
 

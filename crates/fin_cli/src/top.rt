@@ -26,7 +26,11 @@ pub fn finch<R: Threads + Wait + Sync, S: Source, O: Sink, E: Sink>(
     out: &mut O,
     err: &mut E,
 ) -> u8
-    ensures headline { WritesExactly (reading (map string_bytes words.now)) (across (S.left source.old) (S.left source.new) (S.faults source.old) (S.faults source.new))
+    ensures headline { WritesExactly Mode.Run (reading (map string_bytes words.now))
+        (across (S.left source.old) (S.left source.new) (S.faults source.old) (S.faults source.new))
+        (across (O.taken out.old) (O.taken out.new) (O.faults out.old) (O.faults out.new)) result }
+    ensures plain { WritesExactly Mode.Plain (reading (map string_bytes words.now))
+        (across (S.left source.old) (S.left source.new) (S.faults source.old) (S.faults source.new))
         (across (O.taken out.old) (O.taken out.new) (O.faults out.old) (O.faults out.new)) result }
     ensures completeness { Completes (reading (map string_bytes words.now))
         (across (S.left source.old) (S.left source.new) (S.faults source.old) (S.faults source.new))
@@ -69,7 +73,11 @@ pub fn finch_one<S: Source, O: Sink, E: Sink>(
     err: &mut E,
 ) -> u8
     requires { asks_workers (map string_bytes words.now) ≡ false }
-    ensures headline { WritesExactly (reading (map string_bytes words.now)) (across (S.left source.old) (S.left source.new) (S.faults source.old) (S.faults source.new))
+    ensures headline { WritesExactly Mode.Run (reading (map string_bytes words.now))
+        (across (S.left source.old) (S.left source.new) (S.faults source.old) (S.faults source.new))
+        (across (O.taken out.old) (O.taken out.new) (O.faults out.old) (O.faults out.new)) result }
+    ensures plain { WritesExactly Mode.Plain (reading (map string_bytes words.now))
+        (across (S.left source.old) (S.left source.new) (S.faults source.old) (S.faults source.new))
         (across (O.taken out.old) (O.taken out.new) (O.faults out.old) (O.faults out.new)) result }
     ensures completeness { Completes (reading (map string_bytes words.now))
         (across (S.left source.old) (S.left source.new) (S.faults source.old) (S.faults source.new))
@@ -103,7 +111,11 @@ fn top<S: Source, O: Sink, E: Sink>(
     out: &mut O,
     err: &mut E,
 ) -> u8
-    ensures headline { WritesExactly (reading (map string_bytes words.now)) (across (S.left source.old) (S.left source.new) (S.faults source.old) (S.faults source.new))
+    ensures headline { WritesExactly Mode.Run (reading (map string_bytes words.now))
+        (across (S.left source.old) (S.left source.new) (S.faults source.old) (S.faults source.new))
+        (across (O.taken out.old) (O.taken out.new) (O.faults out.old) (O.faults out.new)) result }
+    ensures plain { WritesExactly Mode.Plain (reading (map string_bytes words.now))
+        (across (S.left source.old) (S.left source.new) (S.faults source.old) (S.faults source.new))
         (across (O.taken out.old) (O.taken out.new) (O.faults out.old) (O.faults out.new)) result }
     ensures completeness { Completes (reading (map string_bytes words.now))
         (across (S.left source.old) (S.left source.new) (S.faults source.old) (S.faults source.new))
@@ -229,7 +241,7 @@ fn read_and_serve<S: Source, O: Sink>(
     ensures later_out { O.Later out.old out.new }
 {
     match read_job(alloc, source) {
-        Ok(job) => serve_job(alloc, mode, &job, out),
+        Ok(job) => serve_job(alloc, mode, job, out),
         Err(JobRead::TooLong) => refused(
             alloc,
             Refusal {

@@ -1,3 +1,4 @@
+pub mod OnePlain
 pub mod Coordinates
 pub mod Lists
 pub mod Stops

@@ -7,7 +7,7 @@ use fin_base::{Fail, Refusal, Rule};
 use std::alloc::AllocError;
 
 /// Why an evaluation stops early.
-#[derive(Drop)]
+#[derive(Debug, Drop)]
 pub enum Halt {
     /// It makes more than 2^24 loop turns, or an output is too large to store.
     Spent,

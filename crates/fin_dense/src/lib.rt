@@ -15,5 +15,7 @@ mod points;
 mod reads;
 mod run;
 mod setting;
+#[cfg(test)]
+mod tests;
 
 pub use evaluate::plain;

@@ -7,34 +7,6 @@ use fin_ast::Index;
 use fin_tensor::Coords;
 use std::alloc::{AllocError, Global};
 
-/// The number of a variable; 0 where there is none.
-pub fn number(vars: &[i64], var: u32) -> i64
-    ensures { result ≡ number vars.now var }
-{
-    match vars.get(var as usize) {
-        Some(value) => *value,
-        None => 0,
-    }
-}
-
-fn number_if(vars: &[i64], var: Option<u32>) -> i64
-    ensures { result ≡ number_if vars.now var }
-{
-    match var {
-        Some(var) => number(vars, var),
-        None => 0,
-    }
-}
-
-// The sum is taken in a wider word, which holds it.
-fn place(vars: &[i64], index: &Index) -> i128
-    ensures { result ≡ place vars.now index.now }
-{
-    number_if(vars, index.first) as i128
-        + number_if(vars, index.second) as i128
-        + index.offset as i128
-}
-
 /// The coordinates where these indices point, if they lie in the box.
 pub fn coordinates(
     alloc: Global,
@@ -57,4 +29,32 @@ pub fn coordinates(
         found.push(c as u64)?;
     }
     Ok(Some(found))
+}
+
+// The sum is taken in a wider word, which holds it.
+fn place(vars: &[i64], index: &Index) -> i128
+    ensures { result ≡ place vars.now index.now }
+{
+    number_if(vars, index.first) as i128
+        + number_if(vars, index.second) as i128
+        + index.offset as i128
+}
+
+fn number_if(vars: &[i64], var: Option<u32>) -> i64
+    ensures { result ≡ number_if vars.now var }
+{
+    match var {
+        Some(var) => number(vars, var),
+        None => 0,
+    }
+}
+
+/// The number of a variable; 0 where there is none.
+pub fn number(vars: &[i64], var: u32) -> i64
+    ensures { result ≡ number vars.now var }
+{
+    match vars.get(var as usize) {
+        Some(value) => *value,
+        None => 0,
+    }
 }

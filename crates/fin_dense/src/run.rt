@@ -23,7 +23,22 @@ pub struct Run {
     pub turns: u64,
 }
 
-/// One statement.
+/// Statements, one after another.
+#[cycle(run)]
+pub fn each(alloc: Global, setting: &Setting<'_>, run: &mut Run, body: &[Stmt]) -> Result<(), Halt>
+    requires few { run.old.turns ≤ 2 ^ 24 }
+    ensures ok { OnOk result (state_of run.new ≡ run_all (setting_in setting.now) body.now run.old.vars.items (state_of run.old)) }
+    ensures vars { OnOk result (run.new.vars.items ≡ run.old.vars.items) }
+    ensures within { OnOk result (run.new.turns ≤ 2 ^ 24) }
+    ensures spent { IsErrOf result Halt.Spent → 2 ^ 24 < (run_all (setting_in setting.now) body.now run.old.vars.items (state_of run.old)).turns }
+{
+    for statement in body {
+        one(alloc, setting, run, statement)?;
+    }
+    Ok(())
+}
+
+// One statement.
 #[cycle(run)]
 fn one(alloc: Global, setting: &Setting<'_>, run: &mut Run, statement: &Stmt) -> Result<(), Halt>
     requires few { run.old.turns ≤ 2 ^ 24 }
@@ -73,8 +88,7 @@ fn one(alloc: Global, setting: &Setting<'_>, run: &mut Run, statement: &Stmt) ->
             value: _,
             line: _,
         } => Ok(declare(alloc, setting, &mut run.made, *tensor)?),
-        Stmt::Freeze { tensor: _, line: _ } => Ok(()),
-        Stmt::Thaw { tensor: _, line: _ } => Ok(()),
+        Stmt::Freeze { tensor: _, line: _ } | Stmt::Thaw { tensor: _, line: _ } => Ok(()),
         Stmt::Update {
             tensor,
             at,
@@ -96,33 +110,29 @@ fn one(alloc: Global, setting: &Setting<'_>, run: &mut Run, statement: &Stmt) ->
     }
 }
 
-/// Statements, one after another.
+// A loop, turn by turn.
 #[cycle(run)]
-pub fn each(alloc: Global, setting: &Setting<'_>, run: &mut Run, body: &[Stmt]) -> Result<(), Halt>
+fn looped(
+    alloc: Global,
+    setting: &Setting<'_>,
+    run: &mut Run,
+    var: u32,
+    body: &[Stmt],
+) -> Result<(), Halt>
     requires few { run.old.turns ≤ 2 ^ 24 }
-    ensures ok { OnOk result (state_of run.new ≡ run_all (setting_in setting.now) body.now run.old.vars.items (state_of run.old)) }
+    ensures ok { OnOk result (state_of run.new ≡ looped (range_of (setting_in setting.now) var) var (braced (run_all (setting_in setting.now) body.now)) run.old.vars.items (state_of run.old)) }
     ensures vars { OnOk result (run.new.vars.items ≡ run.old.vars.items) }
     ensures within { OnOk result (run.new.turns ≤ 2 ^ 24) }
-    ensures spent { IsErrOf result Halt.Spent → 2 ^ 24 < (run_all (setting_in setting.now) body.now run.old.vars.items (state_of run.old)).turns }
+    ensures spent { IsErrOf result Halt.Spent → 2 ^ 24 < (looped (range_of (setting_in setting.now) var) var (braced (run_all (setting_in setting.now) body.now)) run.old.vars.items (state_of run.old)).turns }
 {
-    for statement in body {
-        one(alloc, setting, run, statement)?;
+    let (lo, hi) = range_of(setting, var);
+    for i in lo..hi {
+        if run.turns == MOST_TURNS {
+            return Err(Halt::Spent);
+        }
+        run.turns += 1;
+        bind(alloc, setting, run, var, i as i64, body)?;
     }
-    Ok(())
-}
-
-// A body in braces: what it declares first is gone at its end.
-#[cycle(run)]
-fn braced(alloc: Global, setting: &Setting<'_>, run: &mut Run, body: &[Stmt]) -> Result<(), Halt>
-    requires few { run.old.turns ≤ 2 ^ 24 }
-    ensures ok { OnOk result (state_of run.new ≡ braced (run_all (setting_in setting.now) body.now) run.old.vars.items (state_of run.old)) }
-    ensures vars { OnOk result (run.new.vars.items ≡ run.old.vars.items) }
-    ensures within { OnOk result (run.new.turns ≤ 2 ^ 24) }
-    ensures spent { IsErrOf result Halt.Spent → 2 ^ 24 < (braced (run_all (setting_in setting.now) body.now) run.old.vars.items (state_of run.old)).turns }
-{
-    let before = flags(alloc, run.made.as_slice())?;
-    each(alloc, setting, run, body)?;
-    forget(&mut run.made, before.as_slice());
     Ok(())
 }
 
@@ -153,28 +163,17 @@ fn bind(
     Ok(())
 }
 
-// A loop, turn by turn.
+// A body in braces: what it declares first is gone at its end.
 #[cycle(run)]
-fn looped(
-    alloc: Global,
-    setting: &Setting<'_>,
-    run: &mut Run,
-    var: u32,
-    body: &[Stmt],
-) -> Result<(), Halt>
+fn braced(alloc: Global, setting: &Setting<'_>, run: &mut Run, body: &[Stmt]) -> Result<(), Halt>
     requires few { run.old.turns ≤ 2 ^ 24 }
-    ensures ok { OnOk result (state_of run.new ≡ looped (range_of (setting_in setting.now) var) var (braced (run_all (setting_in setting.now) body.now)) run.old.vars.items (state_of run.old)) }
+    ensures ok { OnOk result (state_of run.new ≡ braced (run_all (setting_in setting.now) body.now) run.old.vars.items (state_of run.old)) }
     ensures vars { OnOk result (run.new.vars.items ≡ run.old.vars.items) }
     ensures within { OnOk result (run.new.turns ≤ 2 ^ 24) }
-    ensures spent { IsErrOf result Halt.Spent → 2 ^ 24 < (looped (range_of (setting_in setting.now) var) var (braced (run_all (setting_in setting.now) body.now)) run.old.vars.items (state_of run.old)).turns }
+    ensures spent { IsErrOf result Halt.Spent → 2 ^ 24 < (braced (run_all (setting_in setting.now) body.now) run.old.vars.items (state_of run.old)).turns }
 {
-    let (lo, hi) = range_of(setting, var);
-    for i in lo..hi {
-        if run.turns == MOST_TURNS {
-            return Err(Halt::Spent);
-        }
-        run.turns += 1;
-        bind(alloc, setting, run, var, i as i64, body)?;
-    }
+    let before = flags(alloc, run.made.as_slice())?;
+    each(alloc, setting, run, body)?;
+    forget(&mut run.made, before.as_slice());
     Ok(())
 }

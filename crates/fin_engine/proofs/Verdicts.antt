@@ -24,7 +24,9 @@ use Rattle.fin_engine.specs.Numbers.{told}
 use Rattle.fin_engine.specs.Inputs.{Tensors, unmatched, shapes_of, inputs_of}
 use Rattle.fin_engine.specs.Verdict.{Accepts, Breaks, BreaksLater, BreaksWhole, IsCompletion, IsJob, IsJobOf, KeepsWhole, Reads}
 use Rattle.fin_ast.specs.declared.program.Program.{Program}
+use Rattle.fin_ast.specs.declared.checked.Checked.{Checked}
 use Rattle.fin_ast.specs.declared.checked.Dims.{Dims}
+use Rattle.fin_ast.specs.Infer.{IsInferred}
 use Rattle.fin_ast.specs.Insertion.{completed_program}
 use Rattle.fin_ast.specs.Life.{life_in}
 use Rattle.fin_ast.specs.Order.{order_in}
@@ -185,3 +187,23 @@ accepted_or_not job rule line (j, (p, g, a, is)) (Breaks.no_token q u n at d k) 
 accepted_or_not job rule line (j, (p, g, a, is)) (Breaks.no_program q u n ys s d k w) = read_not_refused job q u n ys s p g a d k w
 accepted_or_not job rule line (j, (p, g, a, is)) (Breaks.no_tensors q u n ys trees s d k c w) = read_not_misread job q u n s p g a d w
 accepted_or_not job rule line (j, (p, g, a, is)) (Breaks.no_job q h r b breaks) = is_job_or_broken p g j r is (same_later job p q g h r a b breaks)
+
+-- ---- an accepted text is that of one job
+
+same_checked : (a b : Checked) → a.program ≡ b.program → a.dims ≡ b.dims → a.ways.loops ≡ b.ways.loops → a ≡ b
+same_checked a b p d w = λ i. record { program = p i; dims = d i; ways = record { loops = w i } }
+
+same_job : (j k : Job) → j.checked ≡ k.checked → j.inputs ≡ k.inputs → j ≡ k
+same_job j k c i = λ x. record { checked = c x; inputs = i x }
+
+one_job_of : (p : Program) (g : Tensors) (j k : Job) → IsJobOf p g j → IsJobOf p g k → j ≡ k
+one_job_of p g j k h l =
+    let whole = same_whole p j.checked.program k.checked.program h.completed l.completed in
+    let extents = subst (λ x. IsInferred x (shapes_of p.headers g) k.checked.dims) (sym whole) l.kept.extents in
+    let dims = one_inferred j.checked.program (shapes_of p.headers g) j.checked.dims k.checked.dims h.kept.extents extents in
+    same_job j k (same_checked j.checked k.checked whole dims (h.ways ∙ sym l.ways)) (h.inputs ∙ sym l.inputs)
+
+pub one_job : (text : List ℕ) (j k : Job) → IsJob text j → IsJob text k → j ≡ k
+one_job text j k (p, g, a, h) (q, f, b, l) =
+    let there : IsJobOf p f k = subst (λ x. IsJobOf x f k) (sym (same_program_read text p q g f a b)) l in
+    one_job_of p g j k h (subst (λ x. IsJobOf p x k) (sym (same_tensors_read text p q g f a b)) there)

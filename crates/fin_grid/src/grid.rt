@@ -50,6 +50,13 @@ impl Grid {
         self.shape.as_slice()
     }
 
+    /// The extents, as a list.
+    pub fn extents(&self) -> &Nums
+        ensures { result.now ≡ self.now.shape }
+    {
+        &self.shape
+    }
+
     /// The value where there is no entry.
     pub fn fill(&self) -> i64
         ensures { result ≡ self.now.fill }

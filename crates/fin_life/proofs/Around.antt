@@ -13,7 +13,7 @@ use Rattle.fin_ast.specs.declared.mode.Mode.{Mode}
 use Rattle.fin_ast.specs.declared.mode.Mode.TheVariants.{Undeclared, Update, Read}
 use Rattle.fin_ast.specs.declared.program.Program.{Program}
 use Rattle.fin_ast.specs.declared.tree.Index.{Index}
-use Rattle.fin_ast.specs.Sizes.{broken}
+use Rattle.fin_ast.proofs.Unbroken.{first_none, second_none, unbroken}
 use Rattle.fin_ast.specs.Choices.{levels_of}
 use Rattle.fin_ast.specs.Text.{Mark, Opens, Closes, Reads, Updates, Declares, Freezes, Thaws, Text, text_of_all}
 use Rattle.fin_ast.specs.Modes.{is_input_at, around, before_body, last_mode, mode_before}
@@ -23,18 +23,6 @@ use Rattle.fin_tensor.specs.Order.{ordered_levels}
 use Rattle.fin_ast.specs.Order.{loops_since, loops_at, first_update, order_breach, order_at, order_in}
 use Rattle.fin_life.specs.Trails.{order_of}
 use Rattle.fin_life.proofs.Trailed.{loops_of, loops_around, tracks_of, carried_at, carried_is}
-
-none_left : {A : Type 0} (a b : Option A) → option_or a b ≡ None → a ≡ None
-none_left None b e = refl
-none_left (Some x) b e = e
-
-none_right : {A : Type 0} (a b : Option A) → option_or a b ≡ None → b ≡ None
-none_right None b e = e
-none_right (Some x) b e = cc
-
-not_broken : (b : Bool) (rule : Rule) (line : ℕ) → broken b rule line ≡ None → b ≡ false
-not_broken true rule line e = cc
-not_broken false rule line e = refl
 
 or_left : (a b : Bool) → (a || b) ≡ false → a ≡ false
 or_left true b e = e
@@ -168,19 +156,19 @@ module _ (hs : List Header) (t : ℕ) (local : is_input_at hs t ≡ false) where
   declared_here b = ap (λ (x : Bool). is_declared (last_mode (if x then Read else Undeclared) t (around zero b))) local ∙ declared_is t (around zero b)
 
   before_update : (b : Text) (at : List Index) (line : ℕ) → breach_at hs b (Updates t at line) ≡ None → led t (around zero b) ≡ true
-  before_update b at line e = sym (declared_here b) ∙ update_declares (mode_before hs b t) (not_not (is_update (mode_before hs b t)) (or_right (is_input_at hs t) _ (not_broken _ _ line e)))
+  before_update b at line e = sym (declared_here b) ∙ update_declares (mode_before hs b t) (not_not (is_update (mode_before hs b t)) (or_right (is_input_at hs t) _ (unbroken _ _ line e)))
 
   before_freeze : (b : Text) (line : ℕ) → breach_at hs b (Freezes t line) ≡ None → led t (around zero b) ≡ true
-  before_freeze b line e = sym (declared_here b) ∙ update_declares (mode_before hs b t) (not_not (is_update (mode_before hs b t)) (not_broken _ _ line e))
+  before_freeze b line e = sym (declared_here b) ∙ update_declares (mode_before hs b t) (not_not (is_update (mode_before hs b t)) (unbroken _ _ line e))
 
   before_thaw : (b : Text) (line : ℕ) → breach_at hs b (Thaws t line) ≡ None → led t (around zero b) ≡ true
-  before_thaw b line e = sym (declared_here b) ∙ read_declares (mode_before hs b t) (not_not (is_read (mode_before hs b t)) (or_right (is_input_at hs t) _ (not_broken _ _ line e)))
+  before_thaw b line e = sym (declared_here b) ∙ read_declares (mode_before hs b t) (not_not (is_read (mode_before hs b t)) (or_right (is_input_at hs t) _ (unbroken _ _ line e)))
 
   before_declare : (b : Text) (line : ℕ) → breach_at hs b (Declares t line) ≡ None → led t (around 1 b) ≡ false
   before_declare b line e =
       ap (led t) (around_body zero b)
       ∙ sym (declared_here (before_body zero b))
-      ∙ or_right (is_input_at hs t || is_update (mode_before hs b t)) (is_declared (mode_before hs (before_body zero b) t)) (not_broken _ _ line e)
+      ∙ or_right (is_input_at hs t || is_update (mode_before hs b t)) (is_declared (mode_before hs (before_body zero b) t)) (unbroken _ _ line e)
 
   pub record Agrees (n : ℕ) (b : Text) : Type 0 where
     pub entered : (tracks_of b).entered t ≡ entered_in t (around n b)
@@ -230,10 +218,10 @@ module _ (hs : List Header) (t : ℕ) (local : is_input_at hs t ≡ false) where
   }
 
   before : (m : Mark) (b : Text) → sound (m ∷ b) → sound b
-  before m b s = none_left (first_breach (breach_at hs) b) (breach_at hs b m) s
+  before m b s = first_none (first_breach (breach_at hs) b) (breach_at hs b m) s
 
   at : (m : Mark) (b : Text) → sound (m ∷ b) → breach_at hs b m ≡ None
-  at m b s = none_right (first_breach (breach_at hs) b) (breach_at hs b m) s
+  at m b s = second_none (first_breach (breach_at hs) b) (breach_at hs b m) s
 
   led_other : (u : ℕ) (x : Bool) → (u == t) ≡ false → ((u == t) || x) ≡ true → x ≡ true
   led_other u x e h = sym (ap (λ (y : Bool). y || x) e) ∙ h
@@ -293,10 +281,10 @@ module _ (hs : List Header) (t : ℕ) (local : is_input_at hs t ≡ false) where
 
 module _ (hs : List Header) where
   local_update : (t : ℕ) (b : Text) (is : List Index) (line : ℕ) → breach_at hs b (Updates t is line) ≡ None → is_input_at hs t ≡ false
-  local_update t b is line e = or_left (is_input_at hs t) _ (not_broken _ _ line e)
+  local_update t b is line e = or_left (is_input_at hs t) _ (unbroken _ _ line e)
 
   mark_is : (m : Mark) (b : Text) → first_breach (breach_at hs) (m ∷ b) ≡ None → carried_at hs b m ≡ order_at hs b m
-  mark_is (Updates t is line) b s = update_is hs t (local_update t b is line (none_right (first_breach (breach_at hs) b) _ s)) b is line s
+  mark_is (Updates t is line) b s = update_is hs t (local_update t b is line (second_none (first_breach (breach_at hs) b) _ s)) b is line s
   mark_is (Opens var) b s = refl
   mark_is (Closes line) b s = refl
   mark_is (Reads t line) b s = refl
@@ -307,9 +295,9 @@ module _ (hs : List Header) where
   text_is : (b : Text) → first_breach (breach_at hs) b ≡ None → first_breach (carried_at hs) b ≡ first_breach (order_at hs) b
   text_is [] s = refl
   text_is (m ∷ b) s =
-      ap (λ (o : Option Refusal). option_or o (carried_at hs b m)) (text_is b (none_left (first_breach (breach_at hs) b) (breach_at hs b m) s))
+      ap (λ (o : Option Refusal). option_or o (carried_at hs b m)) (text_is b (first_none (first_breach (breach_at hs) b) (breach_at hs b m) s))
       ∙ ap (option_or (first_breach (order_at hs) b)) (mark_is m b s)
 
 -- the order of updates of a program whose tensors are used as they may be is what is carried along it
 pub order_is : (p : Program) → life_in p ≡ None → order_of p.headers p.body ≡ order_in p
-order_is p life = carried_is p.headers p.body ∙ text_is p.headers (text_of_all p.body []) (none_left (first_breach (breach_at p.headers) (text_of_all p.body [])) _ life)
+order_is p life = carried_is p.headers p.body ∙ text_is p.headers (text_of_all p.body []) (first_none (first_breach (breach_at p.headers) (text_of_all p.body [])) _ life)

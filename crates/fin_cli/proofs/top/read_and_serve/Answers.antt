@@ -1,4 +1,4 @@
-use Rattle.std.proofs.Common.{◌∙◌, ◌<◌, inl, refl, sym, subst, length, arith}
+use Rattle.std.proofs.Common.{◌<◌, inl, refl, sym, subst, length, arith}
 use Rattle.fin_base.specs.declared.refusal.Rule.TheVariants.{J1}
 use Rattle.std.proofs.KnownBytes.{Appends-nil}
 use Rattle.fin_ports.specs.Bytes.{most}
@@ -17,7 +17,7 @@ returns-in-Ok-clause-comes g c =
     let out = across (g.O.Sink.taken c.args.out.now) (g.O.Sink.taken c.serve_job.new.out) (g.O.Sink.faults c.args.out.now) (g.O.Sink.faults c.serve_job.new.out) in
     let bytes = c.in-Ok.job.items in
     let took = c.in-Ok.ensures.bytes in
-    let is = c.deref.ensures.value ∙ sym (all_job (left old) (left new) bytes took.0 took.1) in (
+    let is = sym (all_job (left old) (left new) bytes took.0 took.1) in (
       job_of (left old) bytes,
       whole_job source bytes _ took.0 took.1 took.2,
       subst (λ job. Comes source out (IsDueRead job (IsDueThen c.args.mode job)) c.serve_job.result) is (c.serve_job.ensures.comes source),

@@ -4,7 +4,8 @@ use Rattle.std.specs.Prelude.{◌<ℤ◌, ◌≤ℤ◌}
 use Rattle.std.proofs.lemmas.List.{length-map}
 use Rattle.std.proofs.lemmas.Int.{ints}
 use Rattle.fin_ast.specs.Value.{place, coordinates as coordinates_of}
-use Rattle.fin_dense.proofs.Coordinates.{in_box, uneven, fails, goes}
+use Rattle.fin_ast.proofs.InBox.{in_box}
+use Rattle.fin_dense.proofs.Coordinates.{uneven, fails, goes}
 use Rattle.fin_dense.proofs.points.coordinates.Goals as goal
 use Rattle.fin_dense.proofs.points.coordinates.Goals.{then-c-lt0-via-then-c-lt0, then-c-lt0-via-else-c-lt0+then-c-shape}
 

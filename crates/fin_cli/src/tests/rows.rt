@@ -1,0 +1,115 @@
+//! Jobs that run, with what they write.
+
+/// A job and the text of its outputs.
+#[derive(Clone, Copy)]
+pub(super) struct Row {
+    pub(super) job: &'static [u8],
+    pub(super) out: &'static [u8],
+}
+
+// What the three examples write was worked out by hand, as the comments say.
+pub(super) const ROWS: [Row; 19] = [
+    // a sparse matrix times a vector
+    Row {
+        job: b"in A dense list element\nin x dense element\nout y dense element\ny .= 0\nfor i { for j { y[i] += A[i,j] * x[j] } }\n%%\ntensor A\nformat dense list element\nfill 0\nshape 2 3\nptr 1 0 2 3\nidx 1 0 2 1\nval 5 7 9\nend\ntensor x\nformat dense element\nfill 0\nshape 3\nval 1 2 3\nend\n",
+        out: b"tensor y\nformat dense element\nfill 0\nshape 2\nval 26 18\nend\n",
+    },
+    // a sum that wraps
+    Row {
+        job: b"out s element\ns .= 0\ns[] += 9223372036854775807\ns[] += 1\n%%\n",
+        out: b"tensor s\nformat element\nfill 0\nshape\nval -9223372036854775808\nend\n",
+    },
+    // no rows
+    Row {
+        job: b"in A dense list element\nout B dense list element\nB .= 0\nfor i { for j { B[i,j] += A[i,j] } }\n%%\ntensor A\nformat dense list element\nfill 0\nshape 0 3\nptr 1 0\nidx 1\nval\nend\n",
+        out: b"tensor B\nformat dense list element\nfill 0\nshape 0 3\nptr 1 0\nidx 1\nval\nend\n",
+    },
+    // a stored fill
+    Row {
+        job: b"in A dense list element\nout B dense list element\nB .= 0\nfor i { for j { B[i,j] += A[i,j] } }\n%%\ntensor A\nformat dense list element\nfill 0\nshape 1 3\nptr 1 0 2\nidx 1 0 2\nval 0 4\nend\n",
+        out: b"tensor B\nformat dense list element\nfill 0\nshape 1 3\nptr 1 0 1\nidx 1 2\nval 4\nend\n",
+    },
+    // gaps count
+    Row {
+        job: b"in L list element\nout s element fill 100\ns .= 100\nfor i { s[] min= L[i] }\n%%\ntensor L\nformat list element\nfill 0\nshape 4\nptr 0 0 1\nidx 0 2\nval 5\nend\n",
+        out: b"tensor s\nformat element\nfill 100\nshape\nval 0\nend\n",
+    },
+    // an even run
+    Row {
+        job: b"in R runs element\nout s element\ns .= 0\nfor i { s[] xor= R[i] }\n%%\ntensor R\nformat runs element\nfill 0\nshape 4\nptr 0 0 1\nstop 0 4\nval 6\nend\n",
+        out: b"tensor s\nformat element\nfill 0\nshape\nval 0\nend\n",
+    },
+    // an odd run
+    Row {
+        job: b"in R runs element\nout s element\ns .= 0\nfor i { s[] xor= R[i] }\n%%\ntensor R\nformat runs element\nfill 0\nshape 5\nptr 0 0 1\nstop 0 5\nval 6\nend\n",
+        out: b"tensor s\nformat element\nfill 0\nshape\nval 6\nend\n",
+    },
+    // a power
+    Row {
+        job: b"in R runs element\nout s element fill 1\ns .= 1\nfor i { s[] *= R[i] }\n%%\ntensor R\nformat runs element\nfill 0\nshape 5\nptr 0 0 1\nstop 0 5\nval 3\nend\n",
+        out: b"tensor s\nformat element\nfill 1\nshape\nval 243\nend\n",
+    },
+    // a sparse matrix times another
+    Row {
+        job: b"in A dense list element\nin B dense list element\nout C dense list element\ntmp w dense element\nC .= 0\nfor i {\n  w .= 0\n  for k { for j { w[j] += A[i,k] * B[k,j] } }\n  for j { C[i,j] += w[j] }\n}\n%%\ntensor A\nformat dense list element\nfill 0\nshape 2 2\nptr 1 0 2 3\nidx 1 0 1 1\nval 1 2 3\nend\ntensor B\nformat dense list element\nfill 0\nshape 2 3\nptr 1 0 1 2\nidx 1 1 0\nval 4 5\nend\n",
+        out: b"tensor C\nformat dense list element\nfill 0\nshape 2 3\nptr 1 0 2 3\nidx 1 0 1 0\nval 10 4 15\nend\n",
+    },
+    // neighbours, and the fill outside
+    Row {
+        job: b"in x dense element\nout y dense element shape 3\ny .= 0\nfor i { for k in 0..3 { y[i] += x[~(i+k-1)] } }\n%%\ntensor x\nformat dense element\nfill 0\nshape 3\nval 1 2 3\nend\n",
+        out: b"tensor y\nformat dense element\nfill 0\nshape 3\nval 3 6 5\nend\n",
+    },
+    // a shift
+    Row {
+        job: b"in A dense element\nout y dense element shape 3\ny .= 0\nfor i in 0..2 { y[i] += A[i+1] }\n%%\ntensor A\nformat dense element\nfill 0\nshape 3\nval 1 2 3\nend\n",
+        out: b"tensor y\nformat dense element\nfill 0\nshape 3\nval 2 3 0\nend\n",
+    },
+    // frozen and thawed
+    Row {
+        job: b"out y dense element shape 2\ny .= 0\nfor i { y[i] += 1 }\nfreeze y\nfor i { y[i] += 2 }\n%%\n",
+        out: b"tensor y\nformat dense element\nfill 0\nshape 2\nval 3 3\nend\n",
+    },
+    // below the diagonal
+    Row {
+        job: b"in A dense dense element\nout s element\ns .= 0\nfor i { for j { if j < i { s[] += A[i,j] } } }\n%%\ntensor A\nformat dense dense element\nfill 0\nshape 2 2\nval 1 2 3 4\nend\n",
+        out: b"tensor s\nformat element\nfill 0\nshape\nval 3\nend\n",
+    },
+    // a block and runs, two outputs
+    Row {
+        job: b"in x dense element\nout b band element\nout r runs element\nb .= 0\nr .= 0\nfor i { b[i] += x[i] r[i] += x[i] }\n%%\ntensor x\nformat dense element\nfill 0\nshape 6\nval 0 0 4 0 5 0\nend\n",
+        out: b"tensor b\nformat band element\nfill 0\nshape 6\nptr 0 0 3\nstart 0 2\nval 4 0 5\nend\ntensor r\nformat runs element\nfill 0\nshape 6\nptr 0 0 5\nstop 0 2 3 4 5 6\nval 0 4 0 5 0\nend\n",
+    },
+    // a bound value
+    Row {
+        job: b"in x dense element\nout s element\ns .= 0\nlet v = x[2] { s[] += v * v }\n%%\ntensor x\nformat dense element\nfill 0\nshape 3\nval 1 2 3\nend\n",
+        out: b"tensor s\nformat element\nfill 0\nshape\nval 9\nend\n",
+    },
+    // nothing
+    Row {
+        job: b"%%\n",
+        out: b"",
+    },
+    // examples/reached.job: 0 leads to 1 and 2, these to 3, and 3 to 4; 5 is four edges away
+    Row {
+        job: b"# Which vertices of a graph are reached from vertex 0 by at most three edges; edge[i,j] is 1 where one leads from i to j.\nin edge dense list element\nout reached dense element\ntmp next dense element\nreached .= 0\nreached[0] or= 1\nfor step in 0..3 {\n  next .= 0\n  for i { for j { next[j] or= and(reached[i], edge[i,j]) } }\n  for j { reached[j] or= next[j] }\n}\n%%\ntensor edge\nformat dense list element\nfill 0\nshape 6 6\nptr 1 0 2 3 4 5 6 6\nidx 1 1 2 3 3 4 5\nval 1 1 1 1 1 1\nend\n",
+        out: b"tensor reached\nformat dense element\nfill 0\nshape 6\nval 1 1 1 1 1 0\nend\n",
+    },
+    // examples/matrices.job: 2 (0 4 0) - (0 8 -3) = (0 0 3); nothing; 3 (7 0 0) + 5 (0 6 0) = (21 30 0)
+    Row {
+        job: b"# The product of two sparse matrices, row by row: a row is summed up in a workspace, and then stored without its zeros.\nin A dense list element\nin B dense list element\nout C dense list element\ntmp row dense element\nC .= 0\nfor i {\n  row .= 0\n  for k { for j { row[j] += A[i,k] * B[k,j] } }\n  for j { C[i,j] += row[j] }\n}\n%%\ntensor A\nformat dense list element\nfill 0\nshape 3 4\nptr 1 0 2 2 4\nidx 1 0 2 1 3\nval 2 -1 3 5\nend\ntensor B\nformat dense list element\nfill 0\nshape 4 3\nptr 1 0 1 2 4 5\nidx 1 1 0 1 2 1\nval 4 7 8 -3 6\nend\n",
+        out: b"tensor C\nformat dense list element\nfill 0\nshape 3 3\nptr 1 0 1 1 3\nidx 1 2 0 1\nval 3 21 30\nend\n",
+    },
+    // examples/picture.job: rows 111111111, 111177711, 222737222 and 222222222
+    Row {
+        job: b"# Lays a figure over a picture: the figure hides the picture where it isn't 0. The picture is kept by runs of one colour.\nin picture dense runs element\nin figure dense band element\nout both dense runs element\nboth .= 0\nfor y { for x {\n  if figure[y,x] == 0 { both[y,x] = picture[y,x] }\n  if figure[y,x] != 0 { both[y,x] = figure[y,x] }\n} }\n%%\ntensor picture\nformat dense runs element\nfill 0\nshape 4 9\nptr 1 0 1 2 5 6\nstop 1 9 9 3 5 9 9\nval 1 1 2 3 2 2\nend\ntensor figure\nformat dense band element\nfill 0\nshape 4 9\nptr 1 0 0 3 6 6\nstart 1 0 4 3 0\nval 7 7 7 7 0 7\nend\n",
+        out: b"tensor both\nformat dense runs element\nfill 0\nshape 4 9\nptr 1 0 1 4 9 10\nstop 1 9 4 7 9 3 4 5 6 9 9\nval 1 1 7 1 2 7 3 7 2 2\nend\n",
+    },
+];
+
+/// A loop over 2^40 coordinates.
+pub(super) const ENDLESS: &[u8] =
+    b"in R runs element\nout s element\ns .= 0\nfor i { s[] += R[i] }\n%%\ntensor R\nformat runs element\nfill 0\nshape 1099511627776\nptr 0 0 1\nstop 0 1099511627776\nval 3\nend\n";
+
+/// An output with 65,537 blocks of 2^24 values, made by as many turns.
+pub(super) const LARGE: &[u8] =
+    b"out b band dense element shape 1099511627776 16777216\nb .= 0\nfor i in 0..65537 { b[i,0] += 1 }\n%%\n";

@@ -1,4 +1,0 @@
-pub mod Lines
-pub mod FirstForm
-pub mod Parts
-pub mod Laws
