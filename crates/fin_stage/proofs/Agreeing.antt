@@ -6,6 +6,7 @@ use Rattle.std.proofs.lemmas.Bool.Decides.{nat_tests}
 use Rattle.fin_base.specs.declared.refusal.Rule.{Rule}
 use Rattle.fin_base.specs.declared.refusal.Refusal.{Refusal}
 use Rattle.fin_tensor.specs.TensorFunction.{TensorFunction}
+use Rattle.fin_ast.proofs.Unbroken.{first_none, second_none, unbroken}
 use Rattle.fin_ast.specs.declared.header.Header.{Header}
 use Rattle.fin_ast.specs.declared.mode.Mode.{Mode}
 use Rattle.fin_ast.specs.declared.mode.Mode.TheVariants.{Undeclared, Update, Read}
@@ -27,18 +28,6 @@ abbrev pub AllAgree : Setting → ModeOf → List Stage → Type 0
 AllAgree w now stages = (t : ℕ) → Agrees (now t) (made_at w.given t) (stage_at stages t)
 
 -- ---- no breach
-pub first_none : (a b : Option Refusal) → option_or a b ≡ None → a ≡ None
-first_none None b e = refl
-first_none (Some r) b e = cc
-
-pub second_none : (a b : Option Refusal) → option_or a b ≡ None → b ≡ None
-second_none None b e = e
-second_none (Some r) b e = cc
-
-pub unbroken : (b : Bool) (rule : Rule) (line : ℕ) → broken b rule line ≡ None → b ≡ false
-unbroken true rule line e = cc
-unbroken false rule line e = refl
-
 pub unchanged_from : (begin now : ModeOf) (line n : ℕ) (hs : List Header) (t : ℕ) → first_from (λ t h. broken (is_changed (begin t) (now t)) Rule.L6 line) n hs ≡ None → t < length hs → is_changed (begin (n + t)) (now (n + t)) ≡ false
 unchanged_from begin now line n [] t e h = absurd (omega arith)
 unchanged_from begin now line n (x ∷ hs) zero e h =

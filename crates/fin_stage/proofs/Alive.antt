@@ -28,10 +28,11 @@ use Rattle.fin_ast.proofs.Nodes.{of_block, of_loop, of_cond, of_bind, of_declare
 use Rattle.fin_life.specs.Passage.{ModeOf, Passage, turned, expr_breach, breach_of_expr, breach_in, after_all, body_breach, stmt_passage, passage_of, passages_of}
 use Rattle.fin_stage.specs.Stages.{Stage, Absent, Built, Frozen, stage_at, frozen_in, readable}
 use Rattle.fin_stage.specs.Staged.{Run, Action, worked, with_stage, unalive, unsmall, unordered, with_value, tensors_of, reads_step, can_read, has_small_indices, asked_to_read, asked_for_small, are_small, braced, repeated, looped, is_made, declare, freeze, freeze_at, thaw, thaw_at, put_at, update_at, update, stage_of, stage_all}
-use Rattle.fin_stage.proofs.Induction.{AllOf, Cases, by_kind, all_by_kind}
+use Rattle.fin_ast.proofs.Induction.{AllOf, Cases, by_kind, all_by_kind}
 use Rattle.fin_stage.proofs.Equations.{stage_block, stage_loop, stage_cond, stage_bind, stage_declare, stage_freeze, stage_thaw, stage_update}
 use Rattle.fin_stage.proofs.Onward.{Onward, onward_stage, all_go_on}
-use Rattle.fin_stage.proofs.Agreeing.{Agrees, AllAgree, first_none, second_none, unbroken, closes_agree, set_agree, stay_agree}
+use Rattle.fin_ast.proofs.Unbroken.{first_none, second_none, unbroken}
+use Rattle.fin_stage.proofs.Agreeing.{Agrees, AllAgree, closes_agree, set_agree, stay_agree}
 
 -- ---- what modes say of stages
 pub neither : (a b : Bool) → (a || b) ≡ false → (a ≡ false) × (b ≡ false)

@@ -29,10 +29,11 @@ use Rattle.fin_stage.specs.Stages.{Stage, Absent, Built, Frozen, stage_at, work_
 use Rattle.fin_stage.specs.Staged.{Run, Action, worked, with_stage, unalive, unsmall, unordered, with_value, asked_to_read, asked_for_small, has_small_indices, can_read, tensors_of, are_small, braced, repeated, looped, is_made, declare, freeze, freeze_at, thaw, thaw_at, put_at, update_at, update, format_at, stage_of, stage_all}
 use Rattle.fin_tensor.specs.Building.{started}
 use Rattle.fin_tensor.specs.Canon.{undecorated}
-use Rattle.fin_stage.proofs.Induction.{AllOf, Cases, by_kind, all_by_kind}
+use Rattle.fin_ast.proofs.Induction.{AllOf, Cases, by_kind, all_by_kind}
 use Rattle.fin_stage.proofs.Equations.{stage_block, stage_loop, stage_cond, stage_bind, stage_declare, stage_freeze, stage_thaw, stage_update}
 use Rattle.fin_stage.proofs.Onward.{Onward, braced_goes_on, all_go_on}
-use Rattle.fin_stage.proofs.Agreeing.{Agrees, AllAgree, first_none, second_none, unbroken, closes_agree}
+use Rattle.fin_ast.proofs.Unbroken.{first_none, second_none, unbroken}
+use Rattle.fin_stage.proofs.Agreeing.{Agrees, AllAgree, closes_agree}
 use Rattle.fin_stage.proofs.Alive.{Living, neither, not_not, left, right, holds_there, builds_it, reads_it, not_given, made_by, worked_lives, small_lives, either, ready, staged_lives, stays_living}
 
 abbrev scoped : List Header → Scope → Type 0

@@ -24,7 +24,8 @@ use Rattle.fin_life.specs.Passage.{ModeOf, after_all, breach_in, passages_of, li
 use Rattle.fin_life.proofs.Behaviour.{life_is}
 use Rattle.fin_stage.specs.Stages.{Stage, Absent, Built, Frozen, stage_at}
 use Rattle.fin_stage.specs.Staged.{Run, before_all, staged}
-use Rattle.fin_stage.proofs.Agreeing.{Agrees, AllAgree, first_none, second_none, unbroken}
+use Rattle.fin_ast.proofs.Unbroken.{first_none, second_none, unbroken}
+use Rattle.fin_stage.proofs.Agreeing.{Agrees, AllAgree}
 use Rattle.fin_stage.proofs.Alive.{Living, not_not}
 use Rattle.fin_stage.proofs.AliveAll.{statements_live}
 use Rattle.fin_stage.proofs.Fits.{absent_at}

@@ -1,4 +1,3 @@
-pub mod Induction
 pub mod Equations
 pub mod Onward
 pub mod Fits

@@ -21,7 +21,7 @@ use Rattle.fin_ast.specs.Dense.{Setting, State, Made, made_at, range_of, tensors
 use Rattle.fin_ast.proofs.Runs.{run_block, run_loop, run_cond, run_bind, run_declare, run_freeze, run_thaw, run_update}
 use Rattle.fin_stage.specs.Stages.{Stage, Absent, Built, Frozen, stage_at, function_in, frozen_in, is_declared, kept, readable}
 use Rattle.fin_stage.specs.Staged.{Run, Action, worked, with_stage, unalive, unsmall, unordered, with_value, tensors_of, reads_step, can_read, has_small_indices, asked_to_read, asked_for_small, are_small, closed, braced, repeated, looped, is_made, declare, freeze, freeze_at, thaw, thaw_at, put_at, update_at, update, format_at, stage_of, stage_all}
-use Rattle.fin_stage.proofs.Induction.{AllOf, Cases, by_kind, all_by_kind}
+use Rattle.fin_ast.proofs.Induction.{AllOf, Cases, by_kind, all_by_kind}
 use Rattle.fin_stage.proofs.Equations.{stage_block, stage_loop, stage_cond, stage_bind, stage_declare, stage_freeze, stage_thaw, stage_update}
 use Rattle.fin_stage.proofs.Onward.{Onward, GoesOn, stage_goes_on, all_go_on, braced_goes_on, repeated_goes_on}
 use Rattle.fin_stage.proofs.Fits.{same_fill}

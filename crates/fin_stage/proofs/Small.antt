@@ -30,9 +30,9 @@ use Rattle.fin_ast.proofs.Nodes.{of_block, of_loop, of_cond, of_bind, of_declare
 use Rattle.fin_ast.proofs.Fitting.{found_fit}
 use Rattle.fin_stage.specs.Stages.{Stage, Absent, Built, Frozen, stage_at}
 use Rattle.fin_stage.specs.Staged.{Run, Action, worked, with_stage, unalive, unsmall, unordered, with_value, asked_to_read, asked_for_small, can_read, has_small_indices, tensors_of, is_small, are_small, braced, repeated, looped, is_made, declare, freeze, freeze_at, thaw, thaw_at, put_at, update_at, update, stage_of, stage_all, before_all, staged}
-use Rattle.fin_stage.proofs.Induction.{AllOf, Cases, by_kind, all_by_kind}
+use Rattle.fin_ast.proofs.Induction.{AllOf, Cases, by_kind, all_by_kind}
 use Rattle.fin_stage.proofs.Equations.{stage_block, stage_loop, stage_cond, stage_bind, stage_declare, stage_freeze, stage_thaw, stage_update}
-use Rattle.fin_stage.proofs.Agreeing.{first_none, second_none}
+use Rattle.fin_ast.proofs.Unbroken.{first_none, second_none}
 use Rattle.fin_stage.proofs.Alive.{left, right}
 use Rattle.fin_stage.proofs.Smallness.{NoneLarge, last_none, small_number, SmallLoops, small_access, fine_expr, small_set, kept_small}
 

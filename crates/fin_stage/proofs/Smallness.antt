@@ -19,7 +19,7 @@ use Rattle.fin_ast.specs.Places.{Gathering, uses_of, expr_places, places_of_expr
 use Rattle.fin_ast.specs.Scope.{Scope, is_among, is_loop, is_index, is_access, expr_step, is_named_expr, holds_of}
 use Rattle.fin_ast.specs.Value.{Numbers, number, number_if}
 use Rattle.fin_stage.specs.Staged.{is_small, is_small_index, are_small, indices_step, has_small_indices}
-use Rattle.fin_stage.proofs.Agreeing.{first_none, second_none, unbroken}
+use Rattle.fin_ast.proofs.Unbroken.{first_none, second_none, unbroken}
 use Rattle.fin_stage.proofs.Alive.{left, right, both}
 
 -- ---- places without large numbers

@@ -27,9 +27,9 @@ use Rattle.fin_ast.proofs.Nodes.{of_block, of_loop, of_cond, of_bind, of_declare
 use Rattle.fin_life.specs.Passage.{ModeOf, Passage, turned, breach_of_expr, breach_in, after_all, body_breach, stmt_passage, passage_of, passages_of}
 use Rattle.fin_stage.specs.Stages.{Stage, Absent, Built, Frozen, stage_at, kept, work_of_declaration, work_of_storing}
 use Rattle.fin_stage.specs.Staged.{Run, Action, worked, with_stage, unalive, unsmall, unordered, with_value, asked_to_read, asked_for_small, has_small_indices, can_read, tensors_of, are_small, braced, repeated, looped, is_made, declare, freeze, freeze_at, thaw, thaw_at, put_at, update_at, update, format_at, stage_of, stage_all}
-use Rattle.fin_stage.proofs.Induction.{AllOf, Cases, by_kind, all_by_kind}
+use Rattle.fin_ast.proofs.Induction.{AllOf, Cases, by_kind, all_by_kind}
 use Rattle.fin_stage.proofs.Equations.{stage_block, stage_loop, stage_cond, stage_bind, stage_declare, stage_freeze, stage_thaw, stage_update}
-use Rattle.fin_stage.proofs.Agreeing.{first_none, second_none, unbroken}
+use Rattle.fin_ast.proofs.Unbroken.{first_none, second_none, unbroken}
 use Rattle.fin_stage.proofs.Alive.{neither}
 use Rattle.fin_stage.proofs.Fits.{set_cases, kept_cases}
 

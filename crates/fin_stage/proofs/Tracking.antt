@@ -22,8 +22,8 @@ use Rattle.fin_ast.specs.Scope.{is_among}
 use Rattle.fin_ast.proofs.Nodes.{of_block, of_loop, of_cond, of_bind, of_declare, of_freeze, of_thaw, of_update}
 use Rattle.fin_life.specs.Tracks.{Tracks, with_first, with_number, declared, updated}
 use Rattle.fin_life.specs.Trails.{Trail, stmt_trail, trail_of, trails_of, breach_along, after_all, update_breach}
-use Rattle.fin_stage.proofs.Induction.{AllOf, Cases, by_kind, all_by_kind}
-use Rattle.fin_stage.proofs.Agreeing.{first_none, second_none, unbroken}
+use Rattle.fin_ast.proofs.Induction.{AllOf, Cases, by_kind, all_by_kind}
+use Rattle.fin_ast.proofs.Unbroken.{first_none, second_none, unbroken}
 use Rattle.fin_stage.proofs.Alive.{left, right, neither, not_not}
 use Rattle.fin_stage.proofs.Touching.{touches, any_touches, declares, any_declares, touches_block, touches_loop, touches_cond, touches_bind, touches_declare, touches_freeze, touches_thaw, touches_update, declares_block, declares_loop, declares_cond, declares_bind, declares_declare, declares_freeze, declares_thaw, declares_update, same_tensor, itself}
 
