@@ -13,3 +13,4 @@ pub mod Lexical
 pub mod Touching
 pub mod Declaring
 pub mod Tracking
+pub mod InOrder
