@@ -53,7 +53,7 @@ module _ (hs : List Header) (w : Setting) (given_is : (t : ℕ) → is_some (mad
       body_lives body all.1 sc begin ((passage_of hs x).after now) vars (stage_of w x vars r) eh (right (is_named x sc) (are_named body sc) en) (second_none ((passage_of hs x).breach begin now) _ eb)
       (all.0 sc begin now vars r eh (left (is_named x sc) (are_named body sc) en) (first_none ((passage_of hs x).breach begin now) _ eb) l)
 
-  braced_lives : (body : List Stmt) → AllOf Lives body → (sc : Scope) (now : ModeOf) (last : ℕ) (vars : Numbers) (r : Run) → sc.headers ≡ hs → are_named body sc ≡ true → body_breach hs (passages_of hs body) last now ≡ None → Alive now r → Alive now (braced (stage_all w body) vars r)
+  pub braced_lives : (body : List Stmt) → AllOf Lives body → (sc : Scope) (now : ModeOf) (last : ℕ) (vars : Numbers) (r : Run) → sc.headers ≡ hs → are_named body sc ≡ true → body_breach hs (passages_of hs body) last now ≡ None → Alive now r → Alive now (braced (stage_all w body) vars r)
   braced_lives body all sc now last vars r eh en eb l =
       let after : Alive (after_all (passages_of hs body) now) (stage_all w body vars r) = body_lives body all sc now now vars r eh en (first_none (breach_in (passages_of hs body) now now) _ eb) l in
       record {
@@ -169,6 +169,9 @@ module _ (hs : List Header) (w : Setting) (given_is : (t : ℕ) → is_some (mad
 
   pub statement_lives : (x : Stmt) → Lives x
   statement_lives = by_kind Lives cases
+
+  pub body_closes : (body : List Stmt) (sc : Scope) (now : ModeOf) (last : ℕ) (vars : Numbers) (r : Run) → sc.headers ≡ hs → are_named body sc ≡ true → body_breach hs (passages_of hs body) last now ≡ None → Alive now r → Alive now (braced (stage_all w body) vars r)
+  body_closes body = braced_lives body (all_by_kind Lives cases body)
 
   pub statements_live : (body : List Stmt) (sc : Scope) (begin now : ModeOf) (vars : Numbers) (r : Run) → sc.headers ≡ hs → are_named body sc ≡ true → breach_in (passages_of hs body) begin now ≡ None → Alive now r → Alive (after_all (passages_of hs body) now) (stage_all w body vars r)
   statements_live body = body_lives body (all_by_kind Lives cases body)

@@ -14,3 +14,5 @@ pub mod Touching
 pub mod Declaring
 pub mod Tracking
 pub mod InOrder
+pub mod Ordered
+pub mod OrderedAll

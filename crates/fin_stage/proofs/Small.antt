@@ -37,7 +37,7 @@ use Rattle.fin_stage.proofs.Alive.{left, right}
 use Rattle.fin_stage.proofs.Smallness.{NoneLarge, last_none, small_number, SmallLoops, small_access, fine_expr, small_set, kept_small}
 
 -- ---- variables are numbered
-counts_split : (n : ℕ) (a b : List ℕ) → counts_from n (a ++ b) ≡ true → (counts_from n a ≡ true) × (counts_from (n + length a) b ≡ true)
+pub counts_split : (n : ℕ) (a b : List ℕ) → counts_from n (a ++ b) ≡ true → (counts_from n a ≡ true) × (counts_from (n + length a) b ≡ true)
 counts_split n [] b e = (refl, subst (λ (k : ℕ). counts_from k b ≡ true) (omega arith) e)
 counts_split n (v ∷ a) b e =
     let rest = counts_split (n + 1) a b (right (v == n) (counts_from (n + 1) (a ++ b)) e) in

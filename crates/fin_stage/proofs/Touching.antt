@@ -140,11 +140,11 @@ last_then t a b c (inl e) (inl f) = inl (f ∙ e)
 last_then t a b c (inr e) (inl f) = inr (f ∙ e)
 last_then t a b c h (inr f) = inr f
 
-last_closed : (t : ℕ) (before stages : List Stage) → LastKept t stages (kept before stages)
+pub last_closed : (t : ℕ) (before stages : List Stage) → LastKept t stages (kept before stages)
 last_closed t before stages = elim (kept_cases before stages t) [ inl e ↦ inr (ap last_in e) | inr e ↦ inl (ap last_in e) ]
 
 -- a tensor that is led to a stage without an update
-last_set : (t tensor : ℕ) (x : Stage) (stages : List Stage) → last_in x ≡ None → LastKept t stages (slice_set stages tensor x)
+pub last_set : (t tensor : ℕ) (x : Stage) (stages : List Stage) → last_in x ≡ None → LastKept t stages (slice_set stages tensor x)
 last_set t tensor x stages n = elim (set_cases stages tensor x t) [ inl e ↦ inr (ap last_in e.1 ∙ n) | inr e ↦ inl (ap last_in e) ]
 
 last_other : (t tensor : ℕ) (x : Stage) (stages : List Stage) → nat_eq tensor t ≡ false → LastKept t stages (slice_set stages tensor x)

@@ -165,7 +165,7 @@ module _ (hs : List Header) (t : ℕ) where
       ] refl te
 
   -- a loop around: its variable is the next of the first update's loops
-  loop_goes : (loops : List ℕ) (var e : ℕ) (binds f : List ℕ) → e ≤ length loops → Along (loops ++ var ∷ []) binds e f → Along loops (var ∷ binds) e f
+  pub loop_goes : (loops : List ℕ) (var e : ℕ) (binds f : List ℕ) → e ≤ length loops → Along (loops ++ var ∷ []) binds e f → Along loops (var ∷ binds) e f
   loop_goes loops var e binds f le g =
       let D : List ℕ = drop e loops in
       let split : drop e (loops ++ var ∷ []) ≡ D ++ var ∷ [] = drop_end e loops var le in
@@ -175,7 +175,7 @@ module _ (hs : List Header) (t : ℕ) where
         own = λ lt. (var, g.same (suc (length D)) (omega (arith, long)) (omega (arith, lt)) ∙ ap (take (suc (length D))) split ∙ take_past (suc (length D)) (D ++ var ∷ []) (omega (arith, long_end D var)), ap (λ (b : Bool). b || is_among binds var) (itself var));
       }
 
-  order_kept : (loops : List ℕ) (tracks : Tracks) (at : List Index) (line : ℕ) → update_breach hs t at line loops tracks ≡ None → (is_in_order depth (drop (tracks.entered t) loops) at ≡ true) × (is_as_first depth (drop (tracks.entered t) loops) (option_map (drop (tracks.entered t)) (tracks.firsts t)) ≡ true)
+  pub order_kept : (loops : List ℕ) (tracks : Tracks) (at : List Index) (line : ℕ) → update_breach hs t at line loops tracks ≡ None → (is_in_order depth (drop (tracks.entered t) loops) at ≡ true) × (is_as_first depth (drop (tracks.entered t) loops) (option_map (drop (tracks.entered t)) (tracks.firsts t)) ≡ true)
   order_kept loops tracks at line e = (not_not _ (unbroken _ Rule.U1 line (first_none _ _ e)), not_not _ (unbroken _ Rule.U2 line (second_none _ _ e)))
 
   pub deep_enough : (loops : List ℕ) (at : List Index) → is_in_order depth loops at ≡ true → depth ≤ length loops
