@@ -16,3 +16,4 @@ pub mod Tracking
 pub mod InOrder
 pub mod Ordered
 pub mod OrderedAll
+pub mod OrderedWhole

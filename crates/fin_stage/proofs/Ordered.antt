@@ -124,7 +124,7 @@ module _ (hs : List Header) (w : Setting) (given_is : (t : ℕ) → is_some (mad
   deep_alone t loops tracks m vars last d weak = record { deep = λ _. weak; shallow = λ lt. absurd (omega (arith, lt, d)) }
 
   last_is : (d : ℕ) (cs : List ℕ) (xs : List ℕ) → take d cs ≡ take d xs → Weak d (last_of d cs) xs
-  last_is d cs xs e = elim (nat_eq d 0) as (λ b. Weak d (if b then None else Some cs) xs) [ | true ↦ refl | false ↦ weak_at_update d cs xs e ]
+  last_is d cs xs e = elim (nat_eq d 0) as (λ b. Weak d (if b then None else Some cs) xs) [ true ↦ refl | false ↦ weak_at_update d cs xs e ]
 
   module _ (t : ℕ) (loops : List ℕ) (tracks : Tracks) (m : ℕ) (vars : Numbers) (at : List Index) (by : Reduce) (v : ℤ) (headers_is : w.headers ≡ hs) (inside : t < length hs)
       (deep : depth hs t ≤ length (drop (tracks.entered t) loops)) (bare : are_variables (take (depth hs t) (drop (tracks.entered t) loops)) (take (depth hs t) at) ≡ true) where
@@ -204,9 +204,9 @@ module _ (hs : List Header) (w : Setting) (given_is : (t : ℕ) → is_some (mad
       deep = λ d. weak_prefix (depth hs t) last (vs ++ k ∷ []) vs (take_of (depth hs t) k vs (omega (arith, d, long_of))) (subst (Weak (depth hs t) last) (inner_values le k) (f (omega (arith, d, inner_long le))));
       shallow = λ d. weak_turns_strict last vs k (elim (cases_lt (suc (length D)) (depth hs t)) [
         | inl lt ↦ elim (g (omega (arith, lt, inner_long le))) [
-            | inl s ↦ let strict : Strict last (vs ++ k ∷ []) = subst (Strict last) (inner_values le k) s in subst (λ (j : ℕ). Weak j last (vs ++ k ∷ [])) (longer vs k) (strict_is_weak last (vs ++ k ∷ []) strict)
-            | inr s ↦ let same : length (drop (tracks.entered t) (loops ++ n ∷ [])) ≡ suc (length vs) = omega (arith, inner_long le, long_of) in subst (λ (j : ℕ). Weak j last (vs ++ k ∷ [])) same (subst (Weak (length (drop (tracks.entered t) (loops ++ n ∷ []))) last) (inner_values le k) s.0)
-          ]
+          | inl s ↦ let strict : Strict last (vs ++ k ∷ []) = subst (Strict last) (inner_values le k) s in subst (λ (j : ℕ). Weak j last (vs ++ k ∷ [])) (longer vs k) (strict_is_weak last (vs ++ k ∷ []) strict)
+          | inr s ↦ let same : length (drop (tracks.entered t) (loops ++ n ∷ [])) ≡ suc (length vs) = omega (arith, inner_long le, long_of) in subst (λ (j : ℕ). Weak j last (vs ++ k ∷ [])) same (subst (Weak (length (drop (tracks.entered t) (loops ++ n ∷ []))) last) (inner_values le k) s.0)
+        ]
         | inr ge ↦ let same : depth hs t ≡ suc (length vs) = omega (arith, ge, d, long_of) in subst (λ (j : ℕ). Weak j last (vs ++ k ∷ [])) same (subst (Weak (depth hs t) last) (inner_values le k) (f (omega (arith, ge, inner_long le))))
       ]);
     }

@@ -217,3 +217,6 @@ module _ (hs : List Header) (t : ℕ) where
 
   pub goes_along : (x : Stmt) → GoesAlong x
   goes_along = by_kind GoesAlong goes_cases
+
+  pub body_goes_along : (body : List Stmt) (loops : List ℕ) (tracks : Tracks) → any_declares t body ≡ false → any_touches t body ≡ true → tracks.entered t ≤ length loops → breach_along (trails_of hs body) loops tracks ≡ None → (f : List ℕ) × ((after_all (trails_of hs body) loops tracks).firsts t ≡ Some f) × Along loops (bindings_of_all body) (tracks.entered t) f
+  body_goes_along body = body_goes body (all_by_kind GoesAlong goes_cases body)
