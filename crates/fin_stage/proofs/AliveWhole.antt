@@ -79,14 +79,14 @@ module _ (c : Checked) (inputs : List Storage) (accepted : IsAccepted c) (fit : 
   pub given_is : (t : ℕ) → is_some (made_at (setting_of c inputs).given t) ≡ is_input_at hs t
   given_is = given_in hs c.dims.shapes inputs headers_fit.shapes fit
 
-  start : Living hs (setting_of c inputs) given_is (mode_at_start hs) (before_all hs)
+  pub start : Living hs (setting_of c inputs) given_is (mode_at_start hs) (before_all hs)
   start = record {
     alive = refl;
     long = absent_long hs;
     agree = λ t. subst (Agrees (mode_at_start hs t) (made_at (setting_of c inputs).given t)) (sym (absent_at hs t)) (start_agrees (is_input_at hs t) (made_at (setting_of c inputs).given t) (given_is t));
   }
 
-  no_breach : life_of hs c.program.body ≡ None
+  pub no_breach : life_of hs c.program.body ≡ None
   no_breach = life_is c.program ∙ accepted.life
 
   pub living : Living hs (setting_of c inputs) given_is (after_all (passages_of hs c.program.body) (mode_at_start hs)) (staged c inputs)

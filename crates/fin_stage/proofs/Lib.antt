@@ -17,3 +17,5 @@ pub mod InOrder
 pub mod Ordered
 pub mod OrderedAll
 pub mod OrderedWhole
+pub mod Ranges
+pub mod Soundness

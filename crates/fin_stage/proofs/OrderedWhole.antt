@@ -251,3 +251,9 @@ module _ (hs : List Header) (w : Setting) (given_is : (t : ℕ) → is_some (mad
         let done = update_orders now loops tracks n (n + 0) vars tensor line at' by v y inside et ay own in
         record { ordered = done.ordered; order = λ t h. subst (λ (k : ℕ). InOrder hs k loops (track.updated tensor loops tracks) (n + 0) vars (last_at (update w tensor (map (place vars) at') by v y) k)) (same_tensor tensor t h) done.order; entered = at.entered });
   }
+
+  pub statements_in_order : (body : List Stmt) (sc : Scope) (begin now : ModeOf) (loops : List ℕ) (tracks : Tracks) (n : ℕ) (vars : Numbers) (r : Run) → sc.headers ≡ hs → are_named body sc ≡ true
+      → breach_in (passages_of hs body) begin now ≡ None → breach_along (trails_of hs body) loops tracks ≡ None → counts_from n (bindings_of_all body) ≡ true → n + length (bindings_of_all body) ≤ length vars → At now loops tracks n r
+      → ((t : ℕ) → any_touches t body ≡ true → InOrder hs t loops tracks n vars (last_at r t)) → (stage_all w body vars r).ordered ≡ true
+  statements_in_order body sc begin now loops tracks n vars r eh en el et ec room at o =
+      (orders_all hs w given_is headers_is body (all_by_kind OrdersIt cases body) sc begin now loops tracks n vars r (λ t. any_touches t body) eh en el et ec room at (λ t h. h) o).ordered
