@@ -1,0 +1,151 @@
+-- Where each statement was asked for what it can do, a run by stages makes what dense evaluation makes.
+use Rattle.std.proofs.Common.{◌≡◌, ◌+◌, ◌-◌, ℕ, zero, suc, ℤ, pos, Bool, true, false, ◌&&◌, List, [], ◌∷◌, map, Option, Some, None, if◌then◌else◌, refl, sym, ap, ◌∙◌, subst}
+use Rattle.std.specs.Prelude.{slice_set, slice_get, slice_index_or, is_some, is_none, unwrap_or, option_map}
+use Rattle.std.specs.Option.{option_or}
+use Rattle.std.specs.Ordering.{int_eq}
+use Rattle.std.proofs.lemmas.List.{set-get_or}
+use Rattle.fin_base.specs.Words.{apply, operate, negated}
+use Rattle.fin_base.specs.declared.reduce.Reduce.{Reduce}
+use Rattle.fin_tensor.specs.TensorFunction.{TensorFunction, filled}
+use Rattle.fin_tensor.specs.Building.{Building, follows, updated, started}
+use Rattle.fin_tensor.specs.Canon.{undecorated}
+use Rattle.fin_ast.specs.declared.header.Header.{Header}
+use Rattle.fin_ast.specs.declared.tree.Index.{Index}
+use Rattle.fin_ast.specs.declared.tree.Expr.{Expr, ind-Expr, map-Expr, fold-roll-Expr}
+use Rattle.fin_ast.specs.declared.tree.Expr.TheOpen.{Expr-F}
+use Rattle.fin_ast.specs.declared.tree.Stmt.{Stmt}
+use Rattle.fin_ast.specs.declared.tree.Stmt.TheVariants as s
+use Rattle.fin_ast.specs.Value.{Numbers, Tensors, Reading, place, coordinates, read, value_step, value_of}
+use Rattle.fin_ast.specs.Dense as dense
+use Rattle.fin_ast.specs.Dense.{Setting, State, Made, made_at, range_of, tensors_in, run_of, run_all}
+use Rattle.fin_ast.proofs.Runs.{run_block, run_loop, run_cond, run_bind, run_declare, run_freeze, run_thaw, run_update}
+use Rattle.fin_stage.specs.Stages.{Stage, Absent, Built, Frozen, stage_at, function_in, frozen_in, is_declared, kept, readable}
+use Rattle.fin_stage.specs.Staged.{Run, Action, worked, with_stage, unalive, unsmall, unordered, with_value, tensors_of, reads_step, can_read, has_small_indices, asked_to_read, asked_for_small, are_small, closed, braced, repeated, looped, is_made, declare, freeze, freeze_at, thaw, thaw_at, put_at, update_at, update, format_at, stage_of, stage_all}
+use Rattle.fin_ast.proofs.Induction.{AllOf, Cases, by_kind, all_by_kind}
+use Rattle.fin_stage.proofs.Equations.{stage_block, stage_loop, stage_cond, stage_bind, stage_declare, stage_freeze, stage_thaw, stage_update}
+use Rattle.fin_stage.proofs.Onward.{Onward, GoesOn, stage_goes_on, all_go_on, braced_goes_on, repeated_goes_on}
+use Rattle.fin_stage.proofs.Fits.{same_fill}
+use Rattle.fin_stage.proofs.Alive.{left, right}
+
+-- ---- lists of stages and of functions
+abbrev pub functions : List Stage → Made
+functions stages = map function_in stages
+
+pub function_at : (stages : List Stage) (t : ℕ) → made_at (functions stages) t ≡ function_in (stage_at stages t)
+function_at [] t = refl
+function_at (x ∷ stages) zero = refl
+function_at (x ∷ stages) (suc t) = function_at stages t
+
+pub set_functions : (stages : List Stage) (t : ℕ) (x : Stage) → slice_set (functions stages) t (function_in x) ≡ functions (slice_set stages t x)
+set_functions [] t x = refl
+set_functions (y ∷ stages) zero x = refl
+set_functions (y ∷ stages) (suc t) x = ap (λ (fs : Made). function_in y ∷ fs) (set_functions stages t x)
+
+-- a stage with the same function changes none
+pub same_function : (stages : List Stage) (t : ℕ) (x : Stage) → function_in (stage_at stages t) ≡ function_in x → functions (slice_set stages t x) ≡ functions stages
+same_function [] t x e = refl
+same_function (y ∷ stages) zero x e = ap (λ (o : Option TensorFunction). o ∷ functions stages) (sym e)
+same_function (y ∷ stages) (suc t) x e = ap (λ (fs : Made). function_in y ∷ fs) (same_function stages t x e)
+
+there_is : (x : Stage) → is_some (function_in x) ≡ is_declared x
+there_is Absent = refl
+there_is (Built b) = refl
+there_is (Frozen format f) = refl
+
+kept_function : (b : Bool) (x : Stage) → (if b then function_in x else None) ≡ function_in (if b then x else Absent)
+kept_function true x = refl
+kept_function false x = refl
+
+kept_functions : (before stages : List Stage) → dense.kept (map is_some (functions before)) (functions stages) ≡ functions (kept before stages)
+kept_functions [] stages = refl
+kept_functions (b ∷ before) [] = refl
+kept_functions (b ∷ before) (x ∷ stages) =
+    ap (λ (d : Bool). (if d then function_in x else None) ∷ dense.kept (map is_some (functions before)) (functions stages)) (there_is b)
+    ∙ ap (λ (o : Option TensorFunction). o ∷ dense.kept (map is_some (functions before)) (functions stages)) (kept_function (is_declared b) x)
+    ∙ ap (λ (fs : Made). function_in (if is_declared b then x else Absent) ∷ fs) (kept_functions before stages)
+
+-- ---- values
+module _ (vars : Numbers) (ts us : Tensors) (same : (t : ℕ) → is_some (ts t) ≡ true → ts t ≡ us t) where
+  abbrev Kept : Type 0
+  Kept = (e : Expr) × (can_read e ts ≡ true → value_of e vars ts ≡ value_of e vars us)
+
+  same_step : (y : Expr-F Kept) → reads_step (map-Expr Expr (Tensors → Bool) can_read (map-Expr Kept Expr (λ k. k.0) y)) ts ≡ true → value_step (map-Expr Expr Reading value_of (map-Expr Kept Expr (λ k. k.0) y)) vars ts ≡ value_step (map-Expr Expr Reading value_of (map-Expr Kept Expr (λ k. k.0) y)) vars us
+  same_step (Expr-F.Num n) e = refl
+  same_step (Expr-F.Var var line) e = refl
+  same_step (Expr-F.Read tensor at line) e = ap (λ (f : Option TensorFunction). read f (map (place vars) at)) (same tensor e)
+  same_step (Expr-F.Neg inner) e = ap negated (inner.1 e)
+  same_step (Expr-F.Two op x y) e = ap (λ (v : ℤ). operate op v (value_of y.0 vars ts)) (x.1 (left (can_read x.0 ts) (can_read y.0 ts) e)) ∙ ap (operate op (value_of x.0 vars us)) (y.1 (right (can_read x.0 ts) (can_read y.0 ts) e))
+
+  pub same_value : (e : Expr) → can_read e ts ≡ true → value_of e vars ts ≡ value_of e vars us
+  same_value = ind-Expr (λ e. can_read e ts ≡ true → value_of e vars ts ≡ value_of e vars us) (λ z y is e.
+      let reads = ap (λ (u : Expr-F Expr). reads_step (map-Expr Expr (Tensors → Bool) can_read u)) is ∙ sym (fold-roll-Expr (Tensors → Bool) reads_step z) in
+      let values = ap (λ (u : Expr-F Expr). value_step (map-Expr Expr Reading value_of u)) is ∙ sym (fold-roll-Expr Reading value_step z) in
+      ap (λ (f : Reading). f vars ts) (sym values) ∙ same_step y (ap (λ (f : Tensors → Bool). f ts) reads ∙ e) ∙ ap (λ (f : Reading). f vars us) values)
+
+frozen_is : (g : Option TensorFunction) (x : Stage) → is_some (option_or g (frozen_in x)) ≡ true → option_or g (frozen_in x) ≡ option_or g (function_in x)
+frozen_is (Some f) x e = refl
+frozen_is None Absent e = cc
+frozen_is None (Built b) e = cc
+frozen_is None (Frozen format f) e = refl
+
+-- ---- runs
+pub record Good (r : Run) : Type 0 where
+  pub alive : r.alive ≡ true
+  pub small : r.small ≡ true
+  pub ordered : r.ordered ≡ true
+
+pub good_before : (r n : Run) → Onward r n → Good n → Good r
+good_before r n o g = record { alive = o.alive g.alive; small = o.small g.small; ordered = o.ordered g.ordered }
+
+module _ (w : Setting) where
+  abbrev Same : Run → State → Type 0
+  Same r t = t.made ≡ functions r.stages
+
+  -- what can be read has its value
+  value_is : (e : Expr) (vars : Numbers) (r : Run) (t : State) → Same r t → can_read e (tensors_of w r) ≡ true → value_of e vars (tensors_of w r) ≡ value_of e vars (tensors_in w t)
+  value_is e vars r t h c = same_value vars (tensors_of w r) (tensors_in w t) (λ k some. frozen_is (made_at w.given k) (stage_at r.stages k) some ∙ ap (option_or (made_at w.given k)) (sym (ap (λ (fs : Made). made_at fs k) h ∙ function_at r.stages k))) e c
+
+  abbrev pub Simulates : Action → dense.Action → Type 0
+  Simulates a d = (vars : Numbers) (r : Run) (t : State) → Same r t → Good (a vars r) → Same (a vars r) (d vars t)
+
+  pub small_same : (b : Bool) (r : Run) → (asked_for_small b r).stages ≡ r.stages
+  small_same true r = refl
+  small_same false r = refl
+
+  pub small_good : (b : Bool) (r : Run) → Good (asked_for_small b r) → Good r
+  small_good true r g = g
+  small_good false r g = record { alive = g.alive; small = absurd (let e : false ≡ true = g.small in cc); ordered = g.ordered }
+
+  read_good : (b : Bool) (r : Run) → Good (asked_to_read b r) → b ≡ true
+  read_good true r g = refl
+  read_good false r g = absurd (let e : false ≡ true = g.alive in cc)
+
+  -- the value of an expression, and the run behind it
+  pub value_simulates : (e : Expr) (vars : Numbers) (after : ℤ → Run → Run) (d : ℤ → State → State)
+      → ((v : ℤ) (r : Run) → Onward r (after v r)) → ((v : ℤ) (r : Run) (t : State) → Same r t → Good (after v r) → Same (after v r) (d v t))
+      → (r : Run) (t : State) → Same r t → Good (with_value w e vars after r) → Same (with_value w e vars after r) (d (value_of e vars (tensors_in w t)) t)
+  value_simulates e vars after d on f r t h g =
+      let v : ℤ = value_of e vars (tensors_of w r) in
+      let asked : Run = asked_to_read (can_read e (tensors_of w r)) r in
+      let ready : Run = asked_for_small (has_small_indices e vars) asked in
+      let gr : Good asked = small_good (has_small_indices e vars) asked (good_before ready (after v ready) (on v ready) g) in
+      let c : can_read e (tensors_of w r) ≡ true = read_good (can_read e (tensors_of w r)) r gr in
+      let same_stages : ready.stages ≡ r.stages = small_same (has_small_indices e vars) asked ∙ ap (λ (b : Bool). (asked_to_read b r).stages) c in
+      let sr : Same ready t = h ∙ ap functions (sym same_stages) in
+      subst (λ (x : ℤ). Same (after v ready) (d x t)) (value_is e vars r t h c) (f v ready t sr g)
+
+  pub braced_simulates : (a : Action) (d : dense.Action) → Simulates a d → Simulates (braced a) (dense.braced d)
+  braced_simulates a d f vars r t h g =
+      let inner : Same (a vars r) (d vars t) = f vars r t h (record { alive = g.alive; small = g.small; ordered = g.ordered }) in
+      ap (λ (fs : Made). dense.kept (map is_some fs) (d vars t).made) h ∙ ap (dense.kept (map is_some (functions r.stages))) inner ∙ kept_functions r.stages (a vars r).stages
+
+  pub repeated_simulates : (n lo var : ℕ) (a : Action) (d : dense.Action) → GoesOn a → Simulates a d → Simulates (repeated n lo var a) (dense.repeated n lo var d)
+  repeated_simulates zero lo var a d on f vars r t h g = h
+  repeated_simulates (suc n) lo var a d on f vars r t h g =
+      let turn : Run = a (slice_set vars var (pos lo)) (worked 1 r) in
+      repeated_simulates n (lo + 1) var a d on f vars turn (d (slice_set vars var (pos lo)) (dense.ticked t)) (f (slice_set vars var (pos lo)) (worked 1 r) (dense.ticked t) h (good_before turn _ (repeated_goes_on n (lo + 1) var a on vars turn) g)) g
+
+  pub in_turn_simulates : (body : List Stmt) → AllOf (λ x. Simulates (stage_of w x) (run_of w x)) body → Simulates (stage_all w body) (run_all w body)
+  in_turn_simulates [] all vars r t h g = h
+  in_turn_simulates (x ∷ body) all vars r t h g =
+      in_turn_simulates body all.1 vars (stage_of w x vars r) (run_of w x vars t) (all.0 vars r t h (good_before (stage_of w x vars r) _ (all_go_on w body vars (stage_of w x vars r)) g)) g

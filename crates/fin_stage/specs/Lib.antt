@@ -1,0 +1,4 @@
+pub mod Stages
+pub mod Staged
+pub mod Fitting
+pub mod Sound
