@@ -1,18 +1,16 @@
 -- Modes and stages that agree, and what keeps them so.
-use Rattle.std.proofs.Common.{◌≡◌, ◌≢◌, ◌<◌, ◌≤◌, ◌+◌, ℕ, zero, suc, Bool, true, false, List, [], ◌∷◌, map, Option, Some, None, if◌then◌else◌, refl, sym, ap, ◌∙◌, subst, inl, inr, ◌⊎◌, arith, length, get_or-set_same, get_or-set_other}
-use Rattle.std.specs.Prelude.{slice_set, slice_get, slice_index_or, is_some, is_none, not, ◌==◌}
-use Rattle.std.specs.Option.{option_or}
+use Rattle.std.proofs.Common.{◌≡◌, ◌≢◌, ◌<◌, ◌+◌, ℕ, zero, suc, Bool, true, false, List, [], ◌∷◌, Option, Some, None, if◌then◌else◌, refl, sym, ap, ◌∙◌, subst, arith, length, get_or-set_same, get_or-set_other}
+use Rattle.std.specs.Prelude.{slice_set, ◌==◌}
 use Rattle.std.proofs.lemmas.Bool.Decides.{nat_tests}
 use Rattle.fin_base.specs.declared.refusal.Rule.{Rule}
-use Rattle.fin_base.specs.declared.refusal.Refusal.{Refusal}
 use Rattle.fin_tensor.specs.TensorFunction.{TensorFunction}
 use Rattle.fin_ast.proofs.Unbroken.{first_none, second_none, unbroken}
 use Rattle.fin_ast.specs.declared.header.Header.{Header}
 use Rattle.fin_ast.specs.declared.mode.Mode.{Mode}
 use Rattle.fin_ast.specs.declared.mode.Mode.TheVariants.{Undeclared, Update, Read}
 use Rattle.fin_ast.specs.Sizes.{broken, first_from}
-use Rattle.fin_ast.specs.Life.{is_update, is_read, is_changed, first_changed}
-use Rattle.fin_ast.specs.Dense.{Setting, Made, made_at}
+use Rattle.fin_ast.specs.Life.{is_changed, first_changed}
+use Rattle.fin_ast.specs.Dense.{Setting, made_at}
 use Rattle.fin_life.specs.Passage.{ModeOf, turned}
 use Rattle.fin_stage.specs.Stages.{Stage, Absent, Built, Frozen, stage_at, is_declared, kept}
 

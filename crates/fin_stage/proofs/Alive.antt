@@ -1,38 +1,27 @@
 -- Each statement of an accepted program finds its tensors in the stages that it needs.
-use Rattle.std.proofs.Common.{◌≡◌, ◌<◌, ◌+◌, ◌-◌, ℕ, zero, suc, ℤ, pos, Bool, true, false, ◌&&◌, ◌||◌, List, [], ◌∷◌, map, Option, Some, None, if◌then◌else◌, refl, sym, ap, ◌∙◌, subst, arith, length}
-use Rattle.std.specs.Prelude.{slice_set, slice_get, is_some, is_none, not}
+use Rattle.std.proofs.Common.{◌≡◌, ◌<◌, ℕ, zero, suc, Bool, true, false, ◌&&◌, ◌||◌, List, [], ◌∷◌, Option, Some, None, if◌then◌else◌, refl, sym, ap, ◌∙◌, subst, arith, length}
+use Rattle.std.specs.Prelude.{slice_get, is_some, is_none, not}
 use Rattle.std.specs.Option.{option_or}
-use Rattle.std.specs.Ordering.{int_eq}
-use Rattle.fin_base.specs.declared.reduce.Reduce.{Reduce}
-use Rattle.fin_base.specs.declared.terms.Op.{Op}
 use Rattle.fin_base.specs.declared.refusal.Rule.{Rule}
 use Rattle.fin_base.specs.declared.refusal.Refusal.{Refusal}
 use Rattle.fin_tensor.specs.TensorFunction.{TensorFunction}
-use Rattle.fin_tensor.specs.Building.{Building, follows}
+use Rattle.fin_tensor.specs.Building.{Building}
 use Rattle.fin_ast.specs.declared.header.Header.{Header}
 use Rattle.fin_ast.specs.declared.mode.Mode.{Mode}
 use Rattle.fin_ast.specs.declared.mode.Mode.TheVariants.{Undeclared, Update, Read}
-use Rattle.fin_ast.specs.declared.tree.Index.{Index}
 use Rattle.fin_ast.specs.declared.tree.Expr.{Expr, ind-Expr, map-Expr, fold-roll-Expr}
 use Rattle.fin_ast.specs.declared.tree.Expr.TheOpen.{Expr-F}
-use Rattle.fin_ast.specs.declared.tree.Stmt.{Stmt}
-use Rattle.fin_ast.specs.declared.tree.Stmt.TheOpen.{Stmt-F}
-use Rattle.fin_ast.specs.declared.tree.Stmt.TheVariants as s
-use Rattle.fin_ast.specs.Text.{Updates, Declares, Freezes, Thaws}
 use Rattle.fin_ast.specs.Modes.{is_input_at}
-use Rattle.fin_ast.specs.Life.{is_update, is_read, is_declared, breach_by, first_changed}
-use Rattle.fin_ast.specs.Scope.{Scope, is_named, all_named, stmt_step, holds_of, within_loop, within_let}
-use Rattle.fin_ast.specs.Value.{Numbers, Tensors, place, coordinates, value_of}
-use Rattle.fin_ast.specs.Dense.{Setting, made_at, range_of}
-use Rattle.fin_ast.proofs.Nodes.{of_block, of_loop, of_cond, of_bind, of_declare, of_freeze, of_thaw, of_update}
-use Rattle.fin_life.specs.Passage.{ModeOf, Passage, turned, expr_breach, breach_of_expr, breach_in, after_all, body_breach, stmt_passage, passage_of, passages_of}
+use Rattle.fin_ast.specs.Life.{is_update, is_read}
+use Rattle.fin_ast.specs.Scope.{holds_of}
+use Rattle.fin_ast.specs.Value.{Numbers, Tensors}
+use Rattle.fin_ast.specs.Dense.{Setting, made_at}
+use Rattle.fin_life.specs.Passage.{ModeOf, turned, expr_breach, breach_of_expr}
 use Rattle.fin_stage.specs.Stages.{Stage, Absent, Built, Frozen, stage_at, frozen_in, readable}
-use Rattle.fin_stage.specs.Staged.{Run, Action, worked, with_stage, unalive, unsmall, unordered, with_value, tensors_of, reads_step, can_read, has_small_indices, asked_to_read, asked_for_small, are_small, braced, repeated, looped, is_made, declare, freeze, freeze_at, thaw, thaw_at, put_at, update_at, update, stage_of, stage_all}
-use Rattle.fin_ast.proofs.Induction.{AllOf, Cases, by_kind, all_by_kind}
-use Rattle.fin_stage.proofs.Equations.{stage_block, stage_loop, stage_cond, stage_bind, stage_declare, stage_freeze, stage_thaw, stage_update}
-use Rattle.fin_stage.proofs.Onward.{Onward, onward_stage, all_go_on}
+use Rattle.fin_stage.specs.Staged.{Run, worked, with_stage, tensors_of, reads_step, can_read, has_small_indices, asked_to_read, asked_for_small, is_made}
+use Rattle.fin_stage.proofs.Onward.{Onward, onward_stage}
 use Rattle.fin_ast.proofs.Unbroken.{first_none, second_none, unbroken}
-use Rattle.fin_stage.proofs.Agreeing.{Agrees, AllAgree, closes_agree, set_agree, stay_agree}
+use Rattle.fin_stage.proofs.Agreeing.{Agrees, AllAgree, set_agree, stay_agree}
 
 -- ---- what modes say of stages
 pub neither : (a b : Bool) → (a || b) ≡ false → (a ≡ false) × (b ≡ false)

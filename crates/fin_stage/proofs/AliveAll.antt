@@ -1,40 +1,36 @@
 -- The stages agree with the modes along an accepted program, statement by statement.
-use Rattle.std.proofs.Common.{◌≡◌, ◌<◌, ◌+◌, ◌-◌, ℕ, zero, suc, ℤ, pos, Bool, true, false, ◌&&◌, ◌||◌, List, [], ◌∷◌, map, Option, Some, None, if◌then◌else◌, refl, sym, ap, ◌∙◌, subst, length}
+use Rattle.std.proofs.Common.{◌≡◌, ◌<◌, ◌+◌, ◌-◌, ℕ, zero, suc, ℤ, pos, Bool, true, false, ◌||◌, List, [], ◌∷◌, map, Option, Some, None, if◌then◌else◌, refl, sym, ap, ◌∙◌, subst, length}
 use Rattle.std.specs.Prelude.{slice_set, slice_get, is_some, not}
-use Rattle.std.specs.Option.{option_or}
 use Rattle.std.specs.Ordering.{int_eq}
 use Rattle.fin_base.specs.declared.reduce.Reduce.{Reduce}
 use Rattle.fin_base.specs.declared.refusal.Rule.{Rule}
-use Rattle.fin_base.specs.declared.refusal.Refusal.{Refusal}
 use Rattle.fin_tensor.specs.TensorFunction.{TensorFunction}
 use Rattle.fin_tensor.specs.Building.{Building, follows, updated}
 use Rattle.fin_base.specs.Words.{apply}
 use Rattle.fin_ast.specs.declared.header.Header.{Header}
 use Rattle.fin_ast.specs.declared.mode.Mode.{Mode}
 use Rattle.fin_ast.specs.declared.mode.Mode.TheVariants.{Undeclared, Update, Read}
-use Rattle.fin_ast.specs.declared.tree.Index.{Index}
-use Rattle.fin_ast.specs.declared.tree.Expr.{Expr}
 use Rattle.fin_ast.specs.declared.tree.Stmt.{Stmt}
 use Rattle.fin_ast.specs.declared.tree.Stmt.TheOpen.{Stmt-F}
 use Rattle.fin_ast.specs.declared.tree.Stmt.TheVariants as s
 use Rattle.fin_ast.specs.Text.{Updates, Declares, Freezes, Thaws}
 use Rattle.fin_ast.specs.Modes.{is_input_at}
-use Rattle.fin_ast.specs.Life.{is_update, is_read, is_declared, breach_by, first_changed}
-use Rattle.fin_ast.specs.Scope.{Scope, is_named, are_named, all_named, stmt_step, holds_of, within_loop, within_let, is_access, is_named_expr}
+use Rattle.fin_ast.specs.Life.{is_update, is_read, is_declared, breach_by}
+use Rattle.fin_ast.specs.Scope.{Scope, is_named, are_named, stmt_step, holds_of, within_loop, within_let, is_named_expr}
 use Rattle.fin_ast.specs.Value.{Numbers, place, coordinates, value_of}
 use Rattle.fin_ast.specs.Dense.{Setting, made_at, range_of, shape_at}
 use Rattle.fin_ast.proofs.Nodes.{of_block, of_loop, of_cond, of_bind, of_declare, of_freeze, of_thaw, of_update}
 use Rattle.fin_life.specs.Passage.{ModeOf, Passage, turned, breach_of_expr, breach_in, after_all, body_breach, stmt_passage, passage_of, passages_of}
 use Rattle.fin_stage.specs.Stages.{Stage, Absent, Built, Frozen, stage_at, work_of_declaration, work_of_storing}
-use Rattle.fin_stage.specs.Staged.{Run, Action, worked, with_stage, unalive, unsmall, unordered, with_value, asked_to_read, asked_for_small, has_small_indices, can_read, tensors_of, are_small, braced, repeated, looped, is_made, declare, freeze, freeze_at, thaw, thaw_at, put_at, update_at, update, format_at, stage_of, stage_all}
+use Rattle.fin_stage.specs.Staged.{Run, worked, with_stage, unalive, unordered, with_value, asked_to_read, asked_for_small, has_small_indices, can_read, tensors_of, are_small, braced, repeated, looped, is_made, declare, freeze, freeze_at, thaw, thaw_at, put_at, update_at, update, format_at, stage_of, stage_all}
 use Rattle.fin_tensor.specs.Building.{started}
 use Rattle.fin_tensor.specs.Canon.{undecorated}
 use Rattle.fin_ast.proofs.Induction.{AllOf, Cases, by_kind, all_by_kind}
 use Rattle.fin_stage.proofs.Equations.{stage_block, stage_loop, stage_cond, stage_bind, stage_declare, stage_freeze, stage_thaw, stage_update}
 use Rattle.fin_stage.proofs.Onward.{Onward, braced_goes_on, all_go_on}
 use Rattle.fin_ast.proofs.Unbroken.{first_none, second_none, unbroken}
-use Rattle.fin_stage.proofs.Agreeing.{Agrees, AllAgree, closes_agree}
-use Rattle.fin_stage.proofs.Alive.{Living, neither, not_not, left, right, holds_there, builds_it, reads_it, not_given, made_by, worked_lives, small_lives, either, ready, staged_lives, stays_living}
+use Rattle.fin_stage.proofs.Agreeing.{Agrees, closes_agree}
+use Rattle.fin_stage.proofs.Alive.{Living, neither, not_not, left, right, holds_there, builds_it, not_given, made_by, worked_lives, small_lives, either, ready, staged_lives, stays_living}
 
 abbrev scoped : List Header → Scope → Type 0
 scoped hs sc = sc.headers ≡ hs

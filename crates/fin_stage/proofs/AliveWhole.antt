@@ -1,31 +1,28 @@
 -- An accepted program over inputs that fit finds its tensors in the stages that it needs, and its outputs are frozen at the end.
-use Rattle.std.proofs.Common.{◌≡◌, ◌<◌, ◌+◌, ℕ, zero, suc, Bool, true, false, ◌&&◌, List, [], ◌∷◌, map, Option, Some, None, if◌then◌else◌, refl, sym, ap, ◌∙◌, subst, arith, length}
+use Rattle.std.proofs.Common.{◌≡◌, ◌+◌, ℕ, zero, suc, Bool, true, false, ◌&&◌, List, [], ◌∷◌, map, Option, Some, None, if◌then◌else◌, refl, sym, ap, ◌∙◌, subst, arith, length}
 use Rattle.std.specs.Prelude.{slice_get, is_some, not}
-use Rattle.std.specs.Option.{option_or}
 use Rattle.fin_base.specs.declared.refusal.Rule.{Rule}
-use Rattle.fin_base.specs.declared.refusal.Refusal.{Refusal}
 use Rattle.fin_tensor.specs.TensorFunction.{TensorFunction}
 use Rattle.fin_tensor.specs.declared.storage.Storage.{Storage}
 use Rattle.fin_tensor.specs.Stands.{stands}
 use Rattle.fin_ast.specs.declared.header.Header.{Header}
-use Rattle.fin_ast.specs.declared.mode.Mode.{Mode}
-use Rattle.fin_ast.specs.declared.mode.Mode.TheVariants.{Undeclared, Update, Read}
+use Rattle.fin_ast.specs.declared.mode.Mode.TheVariants.{Undeclared, Read}
 use Rattle.fin_ast.specs.declared.checked.Checked.{Checked}
 use Rattle.fin_ast.specs.Kinds.{is_input}
 use Rattle.fin_ast.specs.Modes.{is_input_at, mode_at_start}
 use Rattle.fin_ast.specs.Sizes.{broken, first_from}
-use Rattle.fin_ast.specs.Life.{is_read, is_output, first_unread, life_in}
+use Rattle.fin_ast.specs.Life.{is_read, is_output}
 use Rattle.fin_ast.specs.Scope.{outermost}
 use Rattle.fin_ast.specs.Shaped.{AreShaped, FitHeaders}
 use Rattle.fin_ast.specs.Accepted.{IsAccepted, inputs_among, HaveFormats, FitProgram}
-use Rattle.fin_ast.specs.Dense.{Made, made_at, inputs_by_header, setting_of, unbound}
+use Rattle.fin_ast.specs.Dense.{made_at, inputs_by_header, setting_of, unbound}
 use Rattle.fin_ast.proofs.Fitting.{found_fit}
 use Rattle.fin_life.specs.Passage.{ModeOf, after_all, breach_in, passages_of, life_of}
 use Rattle.fin_life.proofs.Behaviour.{life_is}
-use Rattle.fin_stage.specs.Stages.{Stage, Absent, Built, Frozen, stage_at}
-use Rattle.fin_stage.specs.Staged.{Run, before_all, staged}
+use Rattle.fin_stage.specs.Stages.{Absent}
+use Rattle.fin_stage.specs.Staged.{before_all, staged}
 use Rattle.fin_ast.proofs.Unbroken.{first_none, second_none, unbroken}
-use Rattle.fin_stage.proofs.Agreeing.{Agrees, AllAgree}
+use Rattle.fin_stage.proofs.Agreeing.{Agrees}
 use Rattle.fin_stage.proofs.Alive.{Living, not_not}
 use Rattle.fin_stage.proofs.AliveAll.{statements_live}
 use Rattle.fin_stage.proofs.Fits.{absent_at}

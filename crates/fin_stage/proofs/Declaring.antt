@@ -1,24 +1,19 @@
 -- What is declared isn't declared again in the bodies of a statement.
-use Rattle.std.proofs.Common.{◌≡◌, ℕ, ℤ, Bool, true, false, ◌&&◌, ◌||◌, List, [], ◌∷◌, map, Option, Some, None, if◌then◌else◌, refl, sym, ap, ◌∙◌, subst}
-use Rattle.std.specs.Prelude.{not, nat_eq, ◌==◌}
-use Rattle.std.specs.Option.{option_or}
-use Rattle.std.proofs.lemmas.Bool.Decides.{nat_tests}
-use Rattle.fin_base.specs.declared.reduce.Reduce.{Reduce}
+use Rattle.std.proofs.Common.{◌≡◌, ℕ, Bool, true, false, ◌||◌, List, [], ◌∷◌, None, if◌then◌else◌, refl, sym, ap, ◌∙◌, subst}
+use Rattle.std.specs.Prelude.{nat_eq, ◌==◌}
 use Rattle.fin_base.specs.declared.refusal.Rule.{Rule}
 use Rattle.fin_ast.specs.declared.header.Header.{Header}
 use Rattle.fin_ast.specs.declared.mode.Mode.{Mode}
-use Rattle.fin_ast.specs.declared.mode.Mode.TheVariants.{Undeclared, Update, Read}
-use Rattle.fin_ast.specs.declared.tree.Index.{Index}
-use Rattle.fin_ast.specs.declared.tree.Expr.{Expr}
+use Rattle.fin_ast.specs.declared.mode.Mode.TheVariants.{Update, Read}
 use Rattle.fin_ast.specs.declared.tree.Stmt.{Stmt}
 use Rattle.fin_ast.specs.declared.tree.Stmt.TheOpen.{Stmt-F}
 use Rattle.fin_ast.specs.declared.tree.Stmt.TheVariants as s
 use Rattle.fin_ast.specs.Text.{Declares}
 use Rattle.fin_ast.specs.Modes.{is_input_at}
-use Rattle.fin_ast.specs.Life.{is_update, is_declared, breach_by, first_changed}
+use Rattle.fin_ast.specs.Life.{is_update, is_declared, breach_by}
 use Rattle.fin_ast.proofs.Nodes.{of_block, of_loop, of_cond, of_bind, of_declare, of_freeze, of_thaw, of_update}
-use Rattle.fin_life.specs.Passage.{ModeOf, Passage, turned, breach_of_expr, breach_in, after_all, body_breach, stmt_passage, passage_of, passages_of}
-use Rattle.fin_ast.proofs.Induction.{AllOf, Cases, by_kind, all_by_kind}
+use Rattle.fin_life.specs.Passage.{ModeOf, Passage, turned, breach_of_expr, breach_in, body_breach, stmt_passage, passage_of, passages_of}
+use Rattle.fin_ast.proofs.Induction.{AllOf, Cases, all_by_kind}
 use Rattle.fin_ast.proofs.Unbroken.{first_none, second_none, unbroken}
 use Rattle.fin_stage.proofs.Alive.{neither}
 use Rattle.fin_stage.proofs.Touching.{declares, any_declares, declares_block, declares_loop, declares_cond, declares_bind, declares_declare, declares_freeze, declares_thaw, declares_update, same_tensor}

@@ -1,23 +1,21 @@
 -- The stages of tensors fit the headers, whatever a statement does.
-use Rattle.std.proofs.Common.{◌≡◌, ℕ, ℤ, pos, zero, suc, ◌+◌, ◌-◌, Bool, true, false, List, [], ◌∷◌, map, Option, Some, None, if◌then◌else◌, refl, sym, ap, ◌∙◌, subst, inl, inr, ◌⊎◌, IsTrue}
-use Rattle.std.specs.Prelude.{slice_set, slice_get, slice_index_or, unwrap_or, option_map}
+use Rattle.std.proofs.Common.{◌≡◌, ℕ, ℤ, pos, zero, suc, ◌+◌, ◌-◌, Bool, true, false, List, [], ◌∷◌, map, Option, Some, None, if◌then◌else◌, refl, sym, ap, subst, inl, inr, ◌⊎◌}
+use Rattle.std.specs.Prelude.{slice_set, slice_get, unwrap_or, option_map}
 use Rattle.std.specs.Ordering.{int_eq}
 use Rattle.fin_base.specs.Words.{apply}
 use Rattle.fin_base.specs.declared.reduce.Reduce.{Reduce}
-use Rattle.fin_tensor.specs.TensorFunction.{TensorFunction, HasCells, value_at, changed, is_in_box}
+use Rattle.fin_tensor.specs.TensorFunction.{value_at}
 use Rattle.fin_tensor.specs.Building.{Building, started, follows, updated}
 use Rattle.fin_tensor.specs.Canon.{undecorated}
-use Rattle.fin_tensor.specs.declared.format.Format.{Format}
 use Rattle.fin_tensor.proofs.Cells.{keeps_cells, filled_has_cells}
 use Rattle.fin_ast.specs.declared.header.Header.{Header}
-use Rattle.fin_ast.specs.declared.tree.Index.{Index}
 use Rattle.fin_ast.specs.declared.tree.Expr.{Expr}
 use Rattle.fin_ast.specs.declared.tree.Stmt.{Stmt}
 use Rattle.fin_ast.specs.Value.{Numbers, place, coordinates, value_of}
-use Rattle.fin_ast.specs.Dense.{Setting, range_of, shape_at, fill_of}
+use Rattle.fin_ast.specs.Dense.{Setting, range_of, shape_at}
 use Rattle.fin_ast.proofs.InBox.{in_box}
 use Rattle.fin_stage.specs.Stages.{Stage, Absent, Built, Frozen, stage_at, is_declared, kept}
-use Rattle.fin_stage.specs.Staged.{Run, Action, worked, with_stage, unalive, unsmall, unordered, with_value, tensors_of, can_read, has_small_indices, asked_to_read, asked_for_small, are_small, closed, braced, repeated, looped, is_made, declare, freeze, freeze_at, thaw, thaw_at, put_at, update_at, update, no_format, format_at, stage_of, stage_all, before_all}
+use Rattle.fin_stage.specs.Staged.{Run, Action, worked, unalive, unsmall, unordered, with_value, tensors_of, can_read, has_small_indices, asked_to_read, asked_for_small, are_small, braced, repeated, is_made, declare, freeze_at, thaw_at, put_at, update_at, update, no_format, format_at, stage_of, stage_all}
 use Rattle.fin_stage.specs.Fitting.{FunctionFits, StageFits, StagesFit}
 use Rattle.fin_ast.proofs.Induction.{AllOf, Cases, by_kind, all_by_kind}
 use Rattle.fin_stage.proofs.Equations.{stage_block, stage_loop, stage_cond, stage_bind, stage_declare, stage_freeze, stage_thaw, stage_update}

@@ -1,6 +1,6 @@
 -- The last update of a tensor against the loops around a place.
-use Rattle.std.proofs.Common.{◌≡◌, ◌≢◌, ◌<◌, ◌≤◌, ◌+◌, ℕ, zero, suc, ℤ, pos, negsuc, ◌+ℤ◌, Bool, true, false, ◌&&◌, ◌||◌, List, [], ◌∷◌, ◌++◌, map, Option, Some, None, if◌then◌else◌, refl, sym, ap, ◌∙◌, subst, inl, inr, ◌⊎◌, arith, length, take, drop, nat_lt, get_or-set_same, get_or-set_other}
-use Rattle.std.specs.Prelude.{unsigned_abs, slice_set, slice_get, nat_eq, ◌==◌}
+use Rattle.std.proofs.Common.{◌≡◌, ◌<◌, ◌≤◌, ◌+◌, ℕ, zero, suc, ℤ, pos, negsuc, ◌+ℤ◌, Bool, true, false, ◌||◌, List, [], ◌∷◌, ◌++◌, map, Option, Some, None, if◌then◌else◌, refl, sym, ap, ◌∙◌, subst, inl, ◌⊎◌, arith, length, take, drop, nat_lt, get_or-set_same, get_or-set_other}
+use Rattle.std.specs.Prelude.{unsigned_abs, slice_set, nat_eq, ◌==◌}
 use Rattle.std.specs.Ordering.{int_eq}
 use Rattle.std.proofs.lemmas.Int.{ints}
 use Rattle.std.proofs.lemmas.Bool.Decides.{nat_tests}
@@ -12,11 +12,10 @@ use Rattle.fin_ast.specs.Scope.{is_among}
 use Rattle.fin_ast.specs.Ties.{bare, bare_variable}
 use Rattle.fin_ast.specs.Value.{Numbers, number, number_if, place, coordinates, with_first}
 use Rattle.fin_life.specs.Tracks.{Tracks}
-use Rattle.fin_stage.specs.Stages.{Stage, stage_at}
 use Rattle.fin_stage.proofs.Alive.{left, right}
 use Rattle.fin_stage.proofs.Lexical.{Strict, Weak}
-use Rattle.fin_stage.proofs.Touching.{last_in, same_tensor}
-use Rattle.fin_stage.proofs.Tracking.{depth, drop_end}
+use Rattle.fin_stage.proofs.Touching.{same_tensor}
+use Rattle.fin_stage.proofs.Tracking.{depth}
 
 -- ---- the values of loops
 abbrev pub values : Numbers → List ℕ → List ℕ

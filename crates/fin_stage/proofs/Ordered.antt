@@ -1,45 +1,36 @@
 -- Each update of an accepted program follows the one before.
-use Rattle.std.proofs.Common.{◌≡◌, ◌≢◌, ◌<◌, ◌≤◌, ◌+◌, ◌-◌, ℕ, zero, suc, ℤ, pos, Bool, true, false, ◌&&◌, ◌||◌, List, [], ◌∷◌, ◌++◌, map, Option, Some, None, if◌then◌else◌, refl, sym, ap, ◌∙◌, subst, inl, inr, ◌⊎◌, arith, length, take, drop, get_or-set_same}
-use Rattle.std.specs.Prelude.{is_some, slice_set, slice_get, unwrap_or, option_map, not, nat_eq}
-use Rattle.std.specs.Option.{option_or}
+use Rattle.std.proofs.Common.{◌≡◌, ◌<◌, ◌≤◌, ◌+◌, ℕ, zero, suc, ℤ, pos, Bool, true, false, List, [], ◌∷◌, ◌++◌, map, Option, Some, None, if◌then◌else◌, refl, sym, ap, ◌∙◌, subst, inl, inr, ◌⊎◌, arith, length, take, drop, get_or-set_same}
+use Rattle.std.specs.Prelude.{is_some, slice_set, slice_get, unwrap_or, option_map, nat_eq}
 use Rattle.fin_base.specs.Words.{apply}
 use Rattle.fin_base.specs.declared.reduce.Reduce.{Reduce}
-use Rattle.fin_base.specs.declared.refusal.Rule.{Rule}
 use Rattle.std.proofs.lemmas.Bool.{cases_lt}
 use Rattle.fin_tensor.specs.Building.{Building, comes_behind, follows, updated, last_of}
-use Rattle.fin_tensor.specs.Canon.{undecorated}
 use Rattle.fin_tensor.specs.Order.{ordered_levels}
 use Rattle.fin_tensor.specs.declared.format.Format.{Format}
-use Rattle.fin_tensor.specs.declared.format.Level.{Level}
 use Rattle.fin_tensor.specs.TensorFunction.{TensorFunction}
 use Rattle.fin_ast.specs.declared.header.Header.{Header}
 use Rattle.fin_ast.specs.declared.mode.Mode.{Mode}
 use Rattle.fin_ast.specs.declared.mode.Mode.TheVariants.{Undeclared, Update, Read}
 use Rattle.fin_ast.specs.declared.tree.Index.{Index}
-use Rattle.fin_ast.specs.declared.tree.Stmt.{Stmt}
-use Rattle.fin_ast.specs.Bindings.{bindings_of, bindings_of_all, counts_from}
 use Rattle.fin_ast.specs.Choices.{levels_of}
 use Rattle.fin_ast.specs.Modes.{is_input_at}
 use Rattle.fin_ast.specs.Life.{is_declared}
-use Rattle.fin_ast.specs.Order.{is_in_order, are_variables}
-use Rattle.fin_ast.specs.Scope.{Scope, is_named, are_named, is_among}
+use Rattle.fin_ast.specs.Order.{are_variables}
+use Rattle.fin_ast.specs.Scope.{is_among}
 use Rattle.fin_ast.specs.Value.{Numbers, place, coordinates}
 use Rattle.fin_ast.specs.Dense.{Setting, made_at}
-use Rattle.fin_life.specs.Passage.{ModeOf, passage_of, passages_of, breach_in, body_breach}
-use Rattle.fin_life.specs.Passage as life
+use Rattle.fin_life.specs.Passage.{ModeOf}
 use Rattle.fin_life.specs.Tracks.{Tracks}
 use Rattle.fin_life.specs.Tracks as track
-use Rattle.fin_life.specs.Trails.{trail_of, trails_of, breach_along, update_breach}
-use Rattle.fin_life.specs.Trails as trail
-use Rattle.fin_stage.specs.Stages.{Stage, Absent, Built, Frozen, stage_at, kept}
-use Rattle.fin_stage.specs.Staged.{Run, worked, with_stage, unalive, unordered, put_at, update_at, format_at, no_format, stage_of, stage_all, braced}
+use Rattle.fin_stage.specs.Stages.{Stage, Absent, Built, Frozen, stage_at}
+use Rattle.fin_stage.specs.Staged.{Run, with_stage, unordered, put_at, update_at, format_at, no_format}
 use Rattle.fin_stage.specs.Fitting.{StageFits, StagesFit}
-use Rattle.fin_stage.proofs.Agreeing.{Agrees, AllAgree}
-use Rattle.fin_stage.proofs.Alive.{Living, left, right}
-use Rattle.fin_stage.proofs.Lexical.{Strict, Weak, strict_inside, weak_turns_strict, strict_is_weak, weak_fewer, weak_prefix, weak_at_update, follows_by}
-use Rattle.fin_stage.proofs.Touching.{touches, any_touches, declares, any_declares, last_in, LastKept}
-use Rattle.fin_stage.proofs.Tracking.{depth, drop_end, long_end, Stays, Along, tracked, goes_along}
-use Rattle.fin_stage.proofs.InOrder.{values, long_values, values_turn, values_dropped, among_from, first_coordinates, Stepped, InOrder, no_update}
+use Rattle.fin_stage.proofs.Agreeing.{Agrees}
+use Rattle.fin_stage.proofs.Alive.{Living}
+use Rattle.fin_stage.proofs.Lexical.{Strict, Weak, weak_turns_strict, strict_is_weak, weak_prefix, weak_at_update, follows_by}
+use Rattle.fin_stage.proofs.Touching.{last_in, LastKept}
+use Rattle.fin_stage.proofs.Tracking.{depth, drop_end, long_end, Stays}
+use Rattle.fin_stage.proofs.InOrder.{values, long_values, values_turn, first_coordinates, Stepped, InOrder, no_update}
 
 module _ (hs : List Header) (w : Setting) (given_is : (t : ℕ) → is_some (made_at w.given t) ≡ is_input_at hs t) where
   abbrev Alive : ModeOf → Run → Type 0

@@ -1,53 +1,40 @@
 -- The same, statement by statement.
-use Rattle.std.proofs.Common.{◌≡◌, ◌≢◌, ◌<◌, ◌≤◌, ◌+◌, ◌-◌, ℕ, zero, suc, ℤ, pos, Bool, true, false, ◌&&◌, ◌||◌, List, [], ◌∷◌, ◌++◌, map, Option, Some, None, if◌then◌else◌, refl, sym, ap, ◌∙◌, subst, inl, inr, ◌⊎◌, arith, length, take, drop}
+use Rattle.std.proofs.Common.{◌≡◌, ◌<◌, ◌≤◌, ◌+◌, ◌-◌, ℕ, zero, suc, pos, Bool, true, false, ◌&&◌, ◌||◌, List, [], ◌∷◌, ◌++◌, Option, Some, None, refl, sym, ap, ◌∙◌, subst, inl, inr, ◌⊎◌, arith, length, take, drop}
 use Rattle.std.proofs.lemmas.List.{length-set}
 use Rattle.std.proofs.lemmas.Bool.Decides.{nat_tests}
-use Rattle.std.specs.Prelude.{is_some, slice_set, slice_get, nat_eq, not, option_map, ◌==◌}
-use Rattle.std.specs.Option.{option_or}
-use Rattle.std.specs.Ordering.{int_eq}
-use Rattle.fin_base.specs.declared.reduce.Reduce.{Reduce}
+use Rattle.std.specs.Prelude.{is_some, slice_set, nat_eq, ◌==◌}
 use Rattle.fin_base.specs.declared.refusal.Rule.{Rule}
-use Rattle.fin_tensor.specs.Building.{started}
 use Rattle.fin_ast.specs.declared.header.Header.{Header}
-use Rattle.fin_ast.specs.declared.mode.Mode.{Mode}
-use Rattle.fin_ast.specs.declared.mode.Mode.TheVariants.{Undeclared, Update, Read}
-use Rattle.fin_ast.specs.declared.tree.Index.{Index}
-use Rattle.fin_ast.specs.declared.tree.Expr.{Expr}
+use Rattle.fin_ast.specs.declared.mode.Mode.TheVariants.{Update}
 use Rattle.fin_ast.specs.declared.tree.Stmt.{Stmt}
-use Rattle.fin_ast.specs.declared.tree.Stmt.TheOpen.{Stmt-F}
 use Rattle.fin_ast.specs.declared.tree.Stmt.TheVariants as s
-use Rattle.fin_ast.specs.Bindings.{bindings_step, bindings_of, bindings_of_all, counts_from}
-use Rattle.fin_ast.specs.Text.{Updates, Declares, Freezes, Thaws}
+use Rattle.fin_ast.specs.Bindings.{bindings_of, bindings_of_all, counts_from}
+use Rattle.fin_ast.specs.Text.{Declares}
 use Rattle.fin_ast.specs.Modes.{is_input_at}
-use Rattle.fin_ast.specs.Life.{is_update, is_read, is_declared, breach_by, first_changed}
-use Rattle.fin_ast.specs.Order.{is_in_order, are_variables}
-use Rattle.fin_ast.specs.Scope.{Scope, is_among, is_named, are_named, stmt_step, holds_of, within_loop, within_let, is_named_expr}
-use Rattle.fin_ast.specs.Value.{Numbers, place, value_of}
-use Rattle.fin_ast.specs.Dense.{Setting, made_at, range_of, shape_at}
-use Rattle.fin_ast.proofs.Induction.{AllOf, Cases, by_kind, all_by_kind}
+use Rattle.fin_ast.specs.Life.{is_update, is_declared, breach_by}
+use Rattle.fin_ast.specs.Scope.{Scope, is_among, is_named, are_named, within_loop}
+use Rattle.fin_ast.specs.Value.{Numbers}
+use Rattle.fin_ast.specs.Dense.{Setting, made_at}
+use Rattle.fin_ast.proofs.Induction.{AllOf, Cases, by_kind}
 use Rattle.fin_ast.proofs.Nodes.{of_block, of_loop, of_cond, of_bind, of_declare, of_freeze, of_thaw, of_update}
 use Rattle.fin_ast.proofs.Unbroken.{first_none, second_none, unbroken}
 use Rattle.fin_life.specs.Passage.{ModeOf, Passage, turned, breach_of_expr, breach_in, body_breach, stmt_passage, passage_of, passages_of}
 use Rattle.fin_life.specs.Passage as life
 use Rattle.fin_life.specs.Tracks.{Tracks}
-use Rattle.fin_life.specs.Tracks as track
 use Rattle.fin_life.specs.Trails.{Trail, stmt_trail, trail_of, trails_of, breach_along, update_breach}
 use Rattle.fin_life.specs.Trails as trail
-use Rattle.fin_stage.specs.Stages.{Stage, Absent, Built, Frozen, stage_at, kept}
-use Rattle.fin_stage.specs.Staged.{Run, Action, worked, with_stage, unalive, unsmall, unordered, with_value, asked_to_read, asked_for_small, has_small_indices, can_read, tensors_of, are_small, braced, repeated, looped, is_made, declare, freeze, freeze_at, thaw, thaw_at, put_at, update_at, update, format_at, stage_of, stage_all}
-use Rattle.fin_stage.specs.Fitting.{StageFits, StagesFit}
-use Rattle.fin_stage.proofs.Equations.{stage_block, stage_loop, stage_cond, stage_bind, stage_declare, stage_freeze, stage_thaw, stage_update}
-use Rattle.fin_stage.proofs.Agreeing.{Agrees, AllAgree}
-use Rattle.fin_stage.proofs.Alive.{Living, left, right, neither, not_not, holds_there, ready, worked_lives, small_lives}
+use Rattle.fin_stage.specs.Stages.{stage_at}
+use Rattle.fin_stage.specs.Staged.{Run, worked, braced, repeated, looped, stage_of, stage_all}
+use Rattle.fin_stage.proofs.Alive.{Living, left, right, neither, worked_lives}
 use Rattle.fin_stage.proofs.AliveAll.{statement_lives, body_closes}
 use Rattle.fin_stage.proofs.Fits.{stage_fits, stages_fit, braced_fits}
 use Rattle.fin_stage.proofs.Small.{counts_split}
 use Rattle.fin_stage.proofs.Lexical.{Strict, Weak, strict_inside, strict_is_weak, weak_fewer, weak_prefix}
-use Rattle.fin_stage.proofs.Touching.{touches, any_touches, declares, any_declares, touches_block, touches_loop, touches_cond, touches_bind, touches_declare, touches_freeze, touches_thaw, touches_update, declares_block, declares_loop, declares_cond, declares_bind, declares_declare, declares_freeze, declares_thaw, declares_update, same_tensor, last_in, LastKept, last_closed, last_set, untouched}
+use Rattle.fin_stage.proofs.Touching.{touches, any_touches, declares, any_declares, declares_block, declares_loop, declares_cond, declares_bind, declares_declare, declares_freeze, declares_thaw, declares_update, same_tensor, last_in, last_closed, untouched}
 use Rattle.fin_stage.proofs.Declaring.{body_declares_nothing}
-use Rattle.fin_stage.proofs.Tracking.{depth, drop_end, long_end, Stays, Along, tracked, body_tracked, body_goes_along, loop_goes, order_kept, deep_enough}
-use Rattle.fin_stage.proofs.InOrder.{values, long_values, values_dropped, among_from, Stepped, InOrder, no_update}
-use Rattle.fin_stage.proofs.Ordered.{Here, in_update_mode, declared_mode, carried_by, update_follows, Updated, AtTurn, no_turn, turn_begins, turn_ends}
+use Rattle.fin_stage.proofs.Tracking.{depth, long_end, Stays, Along, tracked, body_tracked, body_goes_along, loop_goes}
+use Rattle.fin_stage.proofs.InOrder.{values, long_values, among_from, InOrder, no_update}
+use Rattle.fin_stage.proofs.Ordered.{Here, in_update_mode, declared_mode, carried_by, AtTurn, no_turn, turn_begins, turn_ends}
 
 abbrev pub last_at : Run → ℕ → Option (List ℕ)
 last_at r t = last_in (stage_at r.stages t)

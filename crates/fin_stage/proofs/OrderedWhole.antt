@@ -1,14 +1,12 @@
 -- The same for whole programs.
-use Rattle.std.proofs.Common.{◌≡◌, ◌≢◌, ◌<◌, ◌≤◌, ◌+◌, ◌-◌, ℕ, zero, suc, ℤ, pos, Bool, true, false, ◌&&◌, ◌||◌, List, [], ◌∷◌, ◌++◌, map, Option, Some, None, if◌then◌else◌, refl, sym, ap, ◌∙◌, subst, inl, inr, ◌⊎◌, arith, length, take, drop}
+use Rattle.std.proofs.Common.{◌≡◌, ◌<◌, ◌≤◌, ◌+◌, ℕ, suc, ℤ, pos, Bool, true, false, ◌||◌, List, [], ◌∷◌, ◌++◌, map, None, if◌then◌else◌, refl, sym, ap, ◌∙◌, subst, inl, arith, length, take, drop}
 use Rattle.std.proofs.lemmas.List.{length-set}
-use Rattle.std.specs.Prelude.{is_some, slice_set, slice_get, nat_eq, not, ◌==◌}
+use Rattle.std.specs.Prelude.{is_some, slice_set, nat_eq, not, ◌==◌}
 use Rattle.std.specs.Ordering.{int_eq}
 use Rattle.std.proofs.lemmas.Bool.Decides.{nat_tests}
 use Rattle.fin_base.specs.declared.reduce.Reduce.{Reduce}
 use Rattle.fin_base.specs.declared.refusal.Rule.{Rule}
-use Rattle.fin_tensor.specs.declared.storage.Storage.{Storage}
 use Rattle.fin_ast.specs.declared.header.Header.{Header}
-use Rattle.fin_ast.specs.declared.checked.Checked.{Checked}
 use Rattle.fin_ast.specs.declared.mode.Mode.{Mode}
 use Rattle.fin_ast.specs.declared.mode.Mode.TheVariants.{Undeclared, Update, Read}
 use Rattle.fin_ast.specs.declared.tree.Index.{Index}
@@ -16,16 +14,15 @@ use Rattle.fin_ast.specs.declared.tree.Expr.{Expr}
 use Rattle.fin_ast.specs.declared.tree.Stmt.{Stmt}
 use Rattle.fin_ast.specs.declared.tree.Stmt.TheOpen.{Stmt-F}
 use Rattle.fin_ast.specs.declared.tree.Stmt.TheVariants as s
-use Rattle.fin_ast.specs.Accepted.{IsAccepted, FitProgram}
 use Rattle.fin_ast.specs.Bindings.{bindings_step, bindings_of, bindings_of_all, counts_from}
-use Rattle.fin_ast.specs.Text.{Updates, Declares, Freezes, Thaws}
-use Rattle.fin_ast.specs.Modes.{is_input_at, mode_at_start}
+use Rattle.fin_ast.specs.Text.{Updates}
+use Rattle.fin_ast.specs.Modes.{is_input_at}
 use Rattle.fin_ast.specs.Life.{is_update, is_read, is_declared, breach_by}
 use Rattle.fin_ast.specs.Order.{are_variables}
-use Rattle.fin_ast.specs.Scope.{Scope, is_among, is_named, are_named, stmt_step, within_loop, within_let, is_access, is_named_expr, outermost}
+use Rattle.fin_ast.specs.Scope.{Scope, is_among, is_named, are_named, stmt_step, within_loop, within_let, is_access, is_named_expr}
 use Rattle.fin_ast.specs.Value.{Numbers, place, value_of}
-use Rattle.fin_ast.specs.Dense.{Setting, made_at, range_of, setting_of, unbound}
-use Rattle.fin_ast.proofs.Induction.{AllOf, Cases, by_kind, all_by_kind}
+use Rattle.fin_ast.specs.Dense.{Setting, made_at, range_of}
+use Rattle.fin_ast.proofs.Induction.{Cases, all_by_kind}
 use Rattle.fin_ast.proofs.Nodes.{of_block, of_loop, of_cond, of_bind, of_declare, of_freeze, of_thaw, of_update}
 use Rattle.fin_ast.proofs.Unbroken.{first_none, second_none, unbroken}
 use Rattle.fin_life.specs.Passage.{ModeOf, Passage, turned, breach_of_expr, breach_in, body_breach, stmt_passage, passage_of, passages_of}
@@ -34,10 +31,10 @@ use Rattle.fin_life.specs.Tracks as track
 use Rattle.fin_life.specs.Trails.{Trail, stmt_trail, trail_of, trails_of, breach_along, update_breach}
 use Rattle.fin_life.specs.Trails as trail
 use Rattle.fin_stage.specs.Stages.{Stage, Absent, Built, Frozen, stage_at}
-use Rattle.fin_stage.specs.Staged.{Run, Action, worked, unalive, unsmall, with_value, asked_to_read, asked_for_small, has_small_indices, can_read, tensors_of, are_small, braced, looped, is_made, declare, freeze, freeze_at, thaw, thaw_at, update_at, update, stage_of, stage_all, before_all, staged}
+use Rattle.fin_stage.specs.Staged.{Run, worked, unalive, with_value, asked_to_read, asked_for_small, has_small_indices, can_read, tensors_of, are_small, braced, looped, is_made, declare, freeze, freeze_at, thaw, thaw_at, update_at, update, stage_of, stage_all}
 use Rattle.fin_stage.specs.Fitting.{StagesFit}
 use Rattle.fin_stage.proofs.Equations.{stage_block, stage_loop, stage_cond, stage_bind, stage_declare, stage_freeze, stage_thaw, stage_update}
-use Rattle.fin_stage.proofs.Alive.{Living, left, right, not_not, holds_there, ready, worked_lives, small_lives}
+use Rattle.fin_stage.proofs.Alive.{left, right, not_not, holds_there, ready, worked_lives, small_lives}
 use Rattle.fin_stage.proofs.Lexical.{Weak}
 use Rattle.fin_stage.proofs.Touching.{touches, any_touches, touches_block, touches_loop, touches_cond, touches_bind, touches_declare, touches_freeze, touches_thaw, touches_update, same_tensor, last_in}
 use Rattle.fin_stage.proofs.Declaring.{body_declares_nothing}

@@ -1,23 +1,19 @@
 -- There is a range for each variable that a program binds.
-use Rattle.std.proofs.Common.{◌≡◌, ◌+◌, ◌*◌, ℕ, zero, suc, ℤ, Bool, List, [], ◌∷◌, ◌++◌, map, Option, Some, None, refl, sym, ap, ◌∙◌, subst, arith, length}
-use Rattle.std.specs.Prelude.{filter_map}
+use Rattle.std.proofs.Common.{◌≡◌, ◌+◌, ◌*◌, ℕ, List, [], ◌∷◌, ◌++◌, Option, Some, None, refl, sym, ap, ◌∙◌, subst, arith, length}
 use Rattle.std.proofs.lemmas.List.{length-append}
 use Rattle.std.proofs.lemmas.List.Elements.{filter_map-append}
-use Rattle.fin_base.specs.declared.reduce.Reduce.{Reduce}
-use Rattle.fin_base.specs.declared.terms.Op.{Op}
 use Rattle.fin_ast.specs.declared.place.Place.{Place}
 use Rattle.fin_ast.specs.declared.place.Place.TheVariants.{Loop, Let, Use}
 use Rattle.fin_ast.specs.declared.tree.Index.{Index}
 use Rattle.fin_ast.specs.declared.tree.Expr.{Expr, ind-Expr, map-Expr, fold-roll-Expr}
 use Rattle.fin_ast.specs.declared.tree.Expr.TheOpen.{Expr-F}
 use Rattle.fin_ast.specs.declared.tree.Stmt.{Stmt}
-use Rattle.fin_ast.specs.declared.tree.Stmt.TheOpen.{Stmt-F}
 use Rattle.fin_ast.specs.declared.tree.Stmt.TheVariants as s
 use Rattle.fin_ast.specs.Bindings.{bindings_step, bindings_of, bindings_of_all}
 use Rattle.fin_ast.specs.Places.{Gathering, uses_of, expr_places, places_of_expr, stmt_places, places_of, places_of_all}
-use Rattle.fin_ast.specs.Sizes.{range_of, ranges_of, number_of}
-use Rattle.fin_ast.specs.Ties.{Extents, OfLoop}
-use Rattle.fin_ast.proofs.Induction.{AllOf, Cases, by_kind, all_by_kind}
+use Rattle.fin_ast.specs.Sizes.{range_of, ranges_of}
+use Rattle.fin_ast.specs.Ties.{Extents}
+use Rattle.fin_ast.proofs.Induction.{AllOf, Cases, all_by_kind}
 use Rattle.fin_ast.proofs.Nodes.{of_block, of_loop, of_cond, of_bind, of_declare, of_freeze, of_thaw, of_update}
 
 module _ (extent : Extents) where

@@ -1,18 +1,15 @@
 -- The same, statement by statement and for whole programs.
-use Rattle.std.proofs.Common.{◌≡◌, ◌+◌, ◌-◌, ℕ, zero, suc, ℤ, pos, Bool, true, false, List, [], ◌∷◌, map, Option, Some, None, if◌then◌else◌, refl, sym, ap, ◌∙◌, subst}
-use Rattle.std.specs.Prelude.{slice_set, slice_get, is_none}
+use Rattle.std.proofs.Common.{◌≡◌, ◌-◌, ℕ, ℤ, pos, Bool, true, false, List, [], ◌∷◌, map, Option, Some, None, if◌then◌else◌, refl, sym, ap, ◌∙◌, subst}
+use Rattle.std.specs.Prelude.{slice_set, slice_get}
 use Rattle.std.specs.Ordering.{int_eq}
 use Rattle.fin_base.specs.Words.{apply}
 use Rattle.fin_base.specs.declared.reduce.Reduce.{Reduce}
 use Rattle.fin_tensor.specs.TensorFunction.{TensorFunction, filled}
 use Rattle.fin_tensor.specs.Building.{Building, follows, updated, started}
 use Rattle.fin_tensor.specs.Canon.{undecorated}
-use Rattle.fin_tensor.specs.declared.format.Format.{Format}
 use Rattle.fin_tensor.specs.declared.storage.Storage.{Storage}
 use Rattle.fin_ast.specs.declared.header.Header.{Header}
 use Rattle.fin_ast.specs.declared.checked.Checked.{Checked}
-use Rattle.fin_ast.specs.declared.tree.Index.{Index}
-use Rattle.fin_ast.specs.declared.tree.Expr.{Expr}
 use Rattle.fin_ast.specs.declared.tree.Stmt.{Stmt}
 use Rattle.fin_ast.specs.declared.tree.Stmt.TheVariants as s
 use Rattle.fin_ast.specs.Value.{Numbers, place, coordinates, value_of}
@@ -20,12 +17,12 @@ use Rattle.fin_ast.specs.Dense as dense
 use Rattle.fin_ast.specs.Dense.{Setting, State, Made, made_at, range_of, shape_at, fill_of, tensors_in, run_of, run_all, setting_of, unbound, evaluated}
 use Rattle.fin_ast.proofs.Runs.{run_block, run_loop, run_cond, run_bind, run_declare, run_freeze, run_thaw, run_update}
 use Rattle.fin_stage.specs.Stages.{Stage, Absent, Built, Frozen, stage_at, function_in, work_of_declaration}
-use Rattle.fin_stage.specs.Staged.{Run, Action, worked, with_stage, unalive, unsmall, unordered, with_value, asked_for_small, are_small, braced, looped, is_made, declare, freeze, freeze_at, thaw, thaw_at, put_at, update_at, update, format_at, stage_of, stage_all, before_all, staged}
-use Rattle.fin_ast.proofs.Induction.{AllOf, Cases, by_kind, all_by_kind}
+use Rattle.fin_stage.specs.Staged.{Run, Action, worked, with_stage, unalive, unordered, with_value, asked_for_small, are_small, braced, looped, is_made, declare, freeze, freeze_at, thaw, thaw_at, put_at, update_at, update, format_at, stage_of, stage_all, before_all, staged}
+use Rattle.fin_ast.proofs.Induction.{Cases, all_by_kind}
 use Rattle.fin_stage.proofs.Equations.{stage_block, stage_loop, stage_cond, stage_bind, stage_declare, stage_freeze, stage_thaw, stage_update}
-use Rattle.fin_stage.proofs.Onward.{Onward, GoesOn, onward_then, onward_still, onward_unsmall, all_go_on, braced_goes_on, repeated_goes_on, small_goes_on, update_goes_on, either_goes_on}
+use Rattle.fin_stage.proofs.Onward.{onward_then, onward_still, all_go_on, braced_goes_on, small_goes_on, update_goes_on, either_goes_on}
 use Rattle.fin_stage.proofs.Fits.{same_fill}
-use Rattle.fin_stage.proofs.Simulating.{functions, function_at, set_functions, same_function, Good, Simulates, good_before, small_good, small_same, value_simulates, braced_simulates, repeated_simulates, in_turn_simulates}
+use Rattle.fin_stage.proofs.Simulating.{functions, function_at, set_functions, same_function, Good, Simulates, small_same, value_simulates, braced_simulates, repeated_simulates, in_turn_simulates}
 
 unfallen : (b : Bool) (x : Run) → (b ≡ false → Good x → ⊥) → Good x → b ≡ true
 unfallen true x f g = refl

@@ -1,30 +1,19 @@
 -- Where each statement was asked for what it can do, a run by stages makes what dense evaluation makes.
-use Rattle.std.proofs.Common.{◌≡◌, ◌+◌, ◌-◌, ℕ, zero, suc, ℤ, pos, Bool, true, false, ◌&&◌, List, [], ◌∷◌, map, Option, Some, None, if◌then◌else◌, refl, sym, ap, ◌∙◌, subst}
-use Rattle.std.specs.Prelude.{slice_set, slice_get, slice_index_or, is_some, is_none, unwrap_or, option_map}
+use Rattle.std.proofs.Common.{◌≡◌, ◌+◌, ℕ, zero, suc, ℤ, pos, Bool, true, false, List, [], ◌∷◌, map, Option, Some, None, if◌then◌else◌, refl, sym, ap, ◌∙◌, subst}
+use Rattle.std.specs.Prelude.{slice_set, is_some}
 use Rattle.std.specs.Option.{option_or}
-use Rattle.std.specs.Ordering.{int_eq}
-use Rattle.std.proofs.lemmas.List.{set-get_or}
-use Rattle.fin_base.specs.Words.{apply, operate, negated}
-use Rattle.fin_base.specs.declared.reduce.Reduce.{Reduce}
-use Rattle.fin_tensor.specs.TensorFunction.{TensorFunction, filled}
-use Rattle.fin_tensor.specs.Building.{Building, follows, updated, started}
-use Rattle.fin_tensor.specs.Canon.{undecorated}
-use Rattle.fin_ast.specs.declared.header.Header.{Header}
-use Rattle.fin_ast.specs.declared.tree.Index.{Index}
+use Rattle.fin_base.specs.Words.{operate, negated}
+use Rattle.fin_tensor.specs.TensorFunction.{TensorFunction}
 use Rattle.fin_ast.specs.declared.tree.Expr.{Expr, ind-Expr, map-Expr, fold-roll-Expr}
 use Rattle.fin_ast.specs.declared.tree.Expr.TheOpen.{Expr-F}
 use Rattle.fin_ast.specs.declared.tree.Stmt.{Stmt}
-use Rattle.fin_ast.specs.declared.tree.Stmt.TheVariants as s
-use Rattle.fin_ast.specs.Value.{Numbers, Tensors, Reading, place, coordinates, read, value_step, value_of}
+use Rattle.fin_ast.specs.Value.{Numbers, Tensors, Reading, place, read, value_step, value_of}
 use Rattle.fin_ast.specs.Dense as dense
 use Rattle.fin_ast.specs.Dense.{Setting, State, Made, made_at, range_of, tensors_in, run_of, run_all}
-use Rattle.fin_ast.proofs.Runs.{run_block, run_loop, run_cond, run_bind, run_declare, run_freeze, run_thaw, run_update}
-use Rattle.fin_stage.specs.Stages.{Stage, Absent, Built, Frozen, stage_at, function_in, frozen_in, is_declared, kept, readable}
-use Rattle.fin_stage.specs.Staged.{Run, Action, worked, with_stage, unalive, unsmall, unordered, with_value, tensors_of, reads_step, can_read, has_small_indices, asked_to_read, asked_for_small, are_small, closed, braced, repeated, looped, is_made, declare, freeze, freeze_at, thaw, thaw_at, put_at, update_at, update, format_at, stage_of, stage_all}
-use Rattle.fin_ast.proofs.Induction.{AllOf, Cases, by_kind, all_by_kind}
-use Rattle.fin_stage.proofs.Equations.{stage_block, stage_loop, stage_cond, stage_bind, stage_declare, stage_freeze, stage_thaw, stage_update}
-use Rattle.fin_stage.proofs.Onward.{Onward, GoesOn, stage_goes_on, all_go_on, braced_goes_on, repeated_goes_on}
-use Rattle.fin_stage.proofs.Fits.{same_fill}
+use Rattle.fin_stage.specs.Stages.{Stage, Absent, Built, Frozen, stage_at, function_in, frozen_in, is_declared, kept}
+use Rattle.fin_stage.specs.Staged.{Run, Action, worked, with_value, tensors_of, reads_step, can_read, has_small_indices, asked_to_read, asked_for_small, braced, repeated, stage_of, stage_all}
+use Rattle.fin_ast.proofs.Induction.{AllOf}
+use Rattle.fin_stage.proofs.Onward.{Onward, GoesOn, all_go_on, repeated_goes_on}
 use Rattle.fin_stage.proofs.Alive.{left, right}
 
 -- ---- lists of stages and of functions

@@ -1,17 +1,15 @@
 -- The flag on indices holds along an accepted program.
-use Rattle.std.proofs.Common.{◌≡◌, ◌<◌, ◌≤◌, ◌+◌, ◌-◌, ◌*◌, ◌^◌, ℕ, zero, suc, ℤ, pos, Bool, true, false, ◌&&◌, ◌||◌, List, [], ◌∷◌, ◌++◌, map, Option, Some, None, if◌then◌else◌, refl, sym, ap, ◌∙◌, subst, inl, inr, ◌⊎◌, arith, length, All}
+use Rattle.std.proofs.Common.{◌≡◌, ◌<◌, ◌≤◌, ◌+◌, ◌-◌, ◌*◌, ◌^◌, ℕ, zero, suc, ℤ, pos, Bool, true, false, ◌&&◌, ◌||◌, List, [], ◌∷◌, ◌++◌, map, Option, Some, None, if◌then◌else◌, refl, sym, ap, ◌∙◌, subst, inl, inr, ◌⊎◌, arith, length}
 use Rattle.std.specs.Prelude.{slice_set, slice_index_or, nat_eq, ◌==◌}
 use Rattle.std.specs.Ordering.{int_eq}
-use Rattle.std.specs.List.{concat, list_any}
 use Rattle.std.proofs.lemmas.Bool.Decides.{nat_tests}
 use Rattle.fin_base.specs.declared.reduce.Reduce.{Reduce}
 use Rattle.fin_tensor.specs.Building.{Building, follows, updated}
 use Rattle.fin_base.specs.Words.{apply}
 use Rattle.fin_tensor.specs.declared.storage.Storage.{Storage}
-use Rattle.fin_ast.specs.declared.header.Header.{Header}
 use Rattle.fin_ast.specs.declared.checked.Checked.{Checked}
 use Rattle.fin_ast.specs.declared.place.Place.{Place}
-use Rattle.fin_ast.specs.declared.place.Place.TheVariants.{Loop, Let, Use}
+use Rattle.fin_ast.specs.declared.place.Place.TheVariants.{Loop, Let}
 use Rattle.fin_ast.specs.declared.tree.Index.{Index}
 use Rattle.fin_ast.specs.declared.tree.Expr.{Expr}
 use Rattle.fin_ast.specs.declared.tree.Stmt.{Stmt}
@@ -20,19 +18,19 @@ use Rattle.fin_ast.specs.declared.tree.Stmt.TheVariants as s
 use Rattle.fin_ast.specs.Bindings.{bindings_step, bindings_of, bindings_of_all, counts_from}
 use Rattle.fin_ast.specs.Sizes.{first_of, large_in_header, large_in_place}
 use Rattle.fin_ast.specs.Shaped.{AreRanged}
-use Rattle.fin_ast.specs.Accepted.{IsAccepted, FitProgram}
+use Rattle.fin_ast.specs.Accepted.{IsAccepted}
 use Rattle.fin_ast.specs.Infer.{places_in}
-use Rattle.fin_ast.specs.Places.{Gathering, in_turn as gathered, uses_of, places_of_expr, stmt_places, places_of, places_of_all}
+use Rattle.fin_ast.specs.Places.{Gathering, uses_of, places_of_expr, stmt_places, places_of, places_of_all}
 use Rattle.fin_ast.specs.Scope.{Scope, is_among, is_named, are_named, stmt_step, is_named_expr, is_access, within_loop, within_let, outermost}
 use Rattle.fin_ast.specs.Value.{Numbers, number, place, coordinates, value_of}
 use Rattle.fin_ast.specs.Dense.{Setting, range_of, setting_of, unbound}
 use Rattle.fin_ast.proofs.Nodes.{of_block, of_loop, of_cond, of_bind, of_declare, of_freeze, of_thaw, of_update}
 use Rattle.fin_ast.proofs.Fitting.{found_fit}
 use Rattle.fin_stage.specs.Stages.{Stage, Absent, Built, Frozen, stage_at}
-use Rattle.fin_stage.specs.Staged.{Run, Action, worked, with_stage, unalive, unsmall, unordered, with_value, asked_to_read, asked_for_small, can_read, has_small_indices, tensors_of, is_small, are_small, braced, repeated, looped, is_made, declare, freeze, freeze_at, thaw, thaw_at, put_at, update_at, update, stage_of, stage_all, before_all, staged}
-use Rattle.fin_ast.proofs.Induction.{AllOf, Cases, by_kind, all_by_kind}
+use Rattle.fin_stage.specs.Staged.{Run, worked, with_stage, unalive, unordered, with_value, asked_to_read, asked_for_small, can_read, has_small_indices, tensors_of, is_small, are_small, braced, repeated, looped, is_made, declare, freeze, freeze_at, thaw, thaw_at, put_at, update_at, update, stage_of, stage_all, before_all, staged}
+use Rattle.fin_ast.proofs.Induction.{AllOf, Cases, all_by_kind}
 use Rattle.fin_stage.proofs.Equations.{stage_block, stage_loop, stage_cond, stage_bind, stage_declare, stage_freeze, stage_thaw, stage_update}
-use Rattle.fin_ast.proofs.Unbroken.{first_none, second_none}
+use Rattle.fin_ast.proofs.Unbroken.{second_none}
 use Rattle.fin_stage.proofs.Alive.{left, right}
 use Rattle.fin_stage.proofs.Smallness.{NoneLarge, last_none, small_number, SmallLoops, small_access, fine_expr, small_set, kept_small}
 

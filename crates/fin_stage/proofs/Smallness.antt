@@ -1,22 +1,19 @@
 -- The indices of an accepted program are small: variables of loops are, and so are offsets.
-use Rattle.std.proofs.Common.{◌≡◌, ◌≢◌, ◌<◌, ◌≤◌, ◌+◌, ◌-◌, ◌*◌, ◌^◌, ℕ, zero, suc, ℤ, pos, Bool, true, false, ◌&&◌, ◌||◌, List, [], ◌∷◌, ◌++◌, map, Option, Some, None, if◌then◌else◌, refl, sym, ap, ◌∙◌, subst, inl, inr, ◌⊎◌, arith, length, get_or-set_same, get_or-set_other}
-use Rattle.std.specs.Prelude.{slice_set, slice_index_or, unsigned_abs, nat_le, nat_lt, nat_eq, ◌==◌}
+use Rattle.std.proofs.Common.{◌≡◌, ◌≢◌, ◌<◌, ◌≤◌, ◌+◌, ◌*◌, ◌^◌, ℕ, zero, suc, ℤ, pos, Bool, true, false, ◌&&◌, ◌||◌, List, [], ◌∷◌, ◌++◌, Option, Some, None, refl, sym, ap, ◌∙◌, subst, inl, inr, ◌⊎◌, arith, get_or-set_other}
+use Rattle.std.specs.Prelude.{slice_set, unsigned_abs, nat_le, nat_eq}
 use Rattle.std.specs.Option.{option_or}
-use Rattle.std.specs.Ordering.{int_eq}
-use Rattle.std.specs.List.{list_all, list_any, concat}
+use Rattle.std.specs.List.{list_all}
 use Rattle.std.proofs.lemmas.Bool.Decides.{nat_tests}
-use Rattle.fin_base.specs.declared.reduce.Reduce.{Reduce}
 use Rattle.fin_base.specs.declared.refusal.Rule.{Rule}
 use Rattle.fin_base.specs.declared.refusal.Refusal.{Refusal}
-use Rattle.fin_ast.specs.declared.header.Header.{Header}
 use Rattle.fin_ast.specs.declared.place.Place.{Place}
-use Rattle.fin_ast.specs.declared.place.Place.TheVariants.{Loop, Let, Use}
+use Rattle.fin_ast.specs.declared.place.Place.TheVariants.{Use}
 use Rattle.fin_ast.specs.declared.tree.Index.{Index}
 use Rattle.fin_ast.specs.declared.tree.Expr.{Expr, ind-Expr, map-Expr, fold-roll-Expr}
 use Rattle.fin_ast.specs.declared.tree.Expr.TheOpen.{Expr-F}
 use Rattle.fin_ast.specs.Sizes.{first_of, is_large, large_in_place}
 use Rattle.fin_ast.specs.Places.{Gathering, uses_of, expr_places, places_of_expr}
-use Rattle.fin_ast.specs.Scope.{Scope, is_among, is_loop, is_index, is_access, expr_step, is_named_expr, holds_of}
+use Rattle.fin_ast.specs.Scope.{Scope, is_among, is_loop, is_index, is_access, expr_step, is_named_expr}
 use Rattle.fin_ast.specs.Value.{Numbers, number, number_if}
 use Rattle.fin_stage.specs.Staged.{is_small, is_small_index, are_small, indices_step, has_small_indices}
 use Rattle.fin_ast.proofs.Unbroken.{first_none, second_none, unbroken}

@@ -1,8 +1,7 @@
 -- An accepted program runs soundly.
-use Rattle.std.proofs.Common.{◌≡◌, ◌+◌, ◌≤◌, ℕ, suc, ℤ, pos, Bool, true, false, ◌&&◌, List, [], ◌∷◌, map, Option, Some, None, refl, sym, ap, ◌∙◌, subst, arith, length}
-use Rattle.std.specs.Prelude.{is_some, slice_get, unwrap_or, option_map, if◌then◌else◌}
+use Rattle.std.proofs.Common.{◌≡◌, ◌≤◌, ℕ, suc, pos, Bool, true, false, ◌&&◌, List, [], ◌∷◌, map, Option, Some, None, refl, sym, ap, ◌∙◌, subst, arith, length}
+use Rattle.std.specs.Prelude.{is_some, slice_get, unwrap_or, option_map}
 use Rattle.fin_tensor.specs.TensorFunction.{TensorFunction, filled}
-use Rattle.fin_tensor.specs.Building.{Building}
 use Rattle.fin_tensor.specs.Canon.{undecorated}
 use Rattle.fin_tensor.specs.declared.format.Format.{Format}
 use Rattle.fin_tensor.specs.declared.storage.Storage.{Storage}
@@ -17,22 +16,21 @@ use Rattle.fin_ast.specs.Accepted.{IsAccepted, FitProgram}
 use Rattle.fin_ast.specs.Bindings.{bindings_of_all}
 use Rattle.fin_ast.specs.Kinds.{is_input}
 use Rattle.fin_ast.specs.Modes.{is_input_at, is_input_header, mode_at_start}
-use Rattle.fin_ast.specs.Life.{is_read, is_declared, is_output}
+use Rattle.fin_ast.specs.Life.{is_read, is_output}
 use Rattle.fin_ast.specs.Scope.{outermost}
 use Rattle.fin_ast.specs.Sizes.{ranges_of}
 use Rattle.fin_ast.specs.Infer.{places_in}
 use Rattle.fin_ast.specs.Dense.{Made, made_at, evaluated, function_of, setting_of, unbound, shape_at, fill_of}
 use Rattle.fin_ast.proofs.Unbroken.{first_none}
-use Rattle.fin_life.specs.Passage.{ModeOf, after_all, breach_in, passages_of, life_of}
+use Rattle.fin_life.specs.Passage.{after_all, breach_in, passages_of}
 use Rattle.fin_life.specs.Trails.{order_of, no_tracks}
-use Rattle.fin_life.proofs.Behaviour.{life_is}
 use Rattle.fin_life.proofs.Around.{order_is}
 use Rattle.fin_stage.specs.Stages.{Stage, Absent, Built, Frozen, stage_at, function_in}
-use Rattle.fin_stage.specs.Staged.{Run, before_all, staged, regular, format_at, no_format}
-use Rattle.fin_stage.specs.Fitting.{StageFits, StagesFit}
-use Rattle.fin_stage.specs.Sound.{IsSound, AcceptedIsSound}
+use Rattle.fin_stage.specs.Staged.{before_all, staged, no_format}
+use Rattle.fin_stage.specs.Fitting.{StageFits}
+use Rattle.fin_stage.specs.Sound.{AcceptedIsSound}
 use Rattle.fin_stage.proofs.Agreeing.{Agrees}
-use Rattle.fin_stage.proofs.Alive.{Living, both}
+use Rattle.fin_stage.proofs.Alive.{both}
 use Rattle.fin_stage.proofs.AliveWhole.{given_is, start, no_breach, living, accepted_is_alive, outputs_read}
 use Rattle.fin_stage.proofs.Small.{accepted_is_small}
 use Rattle.fin_stage.proofs.Fits.{nothing_fits, stages_fit, absent_at}

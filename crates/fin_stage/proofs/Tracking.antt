@@ -1,26 +1,20 @@
 -- What the tracks say of a statement that updates a tensor: its updates go along the loops of the first one.
-use Rattle.std.proofs.Common.{◌≡◌, ◌≢◌, ◌<◌, ◌≤◌, ◌+◌, ◌-◌, ℕ, zero, suc, ℤ, Bool, true, false, ◌&&◌, ◌||◌, List, [], ◌∷◌, ◌++◌, map, Option, Some, None, if◌then◌else◌, refl, sym, ap, ◌∙◌, subst, inl, inr, ◌⊎◌, arith, length, take, drop}
-use Rattle.std.specs.Prelude.{not, nat_eq, nat_le, ◌==◌, unwrap_or, option_map, slice_get}
-use Rattle.std.specs.Option.{option_or}
-use Rattle.std.specs.List.{list_any, concat}
+use Rattle.std.proofs.Common.{◌≡◌, ◌<◌, ◌≤◌, ℕ, zero, suc, Bool, true, false, ◌||◌, List, [], ◌∷◌, ◌++◌, Option, Some, None, if◌then◌else◌, refl, sym, ap, ◌∙◌, subst, arith, length, take, drop}
+use Rattle.std.specs.Prelude.{nat_eq, nat_le, ◌==◌, unwrap_or, option_map, slice_get}
 use Rattle.std.specs.Cmp.Lexicographic.{pointwise}
 use Rattle.std.proofs.lemmas.Bool.Decides.{nat_tests}
-use Rattle.fin_base.specs.declared.reduce.Reduce.{Reduce}
 use Rattle.fin_base.specs.declared.refusal.Rule.{Rule}
-use Rattle.fin_base.specs.declared.refusal.Refusal.{Refusal}
 use Rattle.fin_tensor.specs.Order.{ordered_levels}
 use Rattle.fin_ast.specs.declared.header.Header.{Header}
 use Rattle.fin_ast.specs.declared.tree.Index.{Index}
-use Rattle.fin_ast.specs.declared.tree.Expr.{Expr}
 use Rattle.fin_ast.specs.declared.tree.Stmt.{Stmt}
-use Rattle.fin_ast.specs.declared.tree.Stmt.TheOpen.{Stmt-F}
 use Rattle.fin_ast.specs.declared.tree.Stmt.TheVariants as s
 use Rattle.fin_ast.specs.Bindings.{bindings_step, bindings_of, bindings_of_all}
 use Rattle.fin_ast.specs.Choices.{levels_of}
-use Rattle.fin_ast.specs.Order.{are_variables, is_in_order, is_as_first, order_breach}
+use Rattle.fin_ast.specs.Order.{is_in_order, is_as_first}
 use Rattle.fin_ast.specs.Scope.{is_among}
 use Rattle.fin_ast.proofs.Nodes.{of_block, of_loop, of_cond, of_bind, of_declare, of_freeze, of_thaw, of_update}
-use Rattle.fin_life.specs.Tracks.{Tracks, with_first, with_number, declared, updated}
+use Rattle.fin_life.specs.Tracks.{Tracks, declared, updated}
 use Rattle.fin_life.specs.Trails.{Trail, stmt_trail, trail_of, trails_of, breach_along, after_all, update_breach}
 use Rattle.fin_ast.proofs.Induction.{AllOf, Cases, by_kind, all_by_kind}
 use Rattle.fin_ast.proofs.Unbroken.{first_none, second_none, unbroken}

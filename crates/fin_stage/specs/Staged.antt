@@ -1,13 +1,12 @@
 -- A run of a program by the stages of its tensors. It does what dense evaluation does; it keeps besides whether each
 -- statement was asked for what it can do, and the work, coordinate by coordinate.
-use Rattle.std.specs.Prelude.{ℕ, zero, suc, ◌+◌, ◌-◌, ◌^◌, Bool, true, false, not, ◌&&◌, nat_le, unsigned_abs, if◌then◌else◌, ℤ, pos, List, [], ◌∷◌, map, Option, Some, None, is_some, is_none, slice_index_or, slice_set, slice_get, unwrap_or, option_map}
+use Rattle.std.specs.Prelude.{ℕ, zero, suc, ◌+◌, ◌-◌, ◌^◌, Bool, true, false, ◌&&◌, nat_le, unsigned_abs, if◌then◌else◌, ℤ, pos, List, [], ◌∷◌, map, Option, Some, None, is_some, is_none, slice_set, slice_get, unwrap_or, option_map}
 use Rattle.std.specs.Ordering.{int_eq}
 use Rattle.std.specs.List.{list_all}
 use Rattle.fin_base.specs.Words.{apply}
 use Rattle.fin_base.specs.declared.reduce.Reduce.{Reduce}
 use Rattle.fin_tensor.specs.declared.format.Format.{Format}
 use Rattle.fin_tensor.specs.declared.format.Wrap.TheVariants.{Bare}
-use Rattle.fin_tensor.specs.TensorFunction.{TensorFunction}
 use Rattle.fin_tensor.specs.Building.{Building, started, follows, updated}
 use Rattle.fin_tensor.specs.Canon.{undecorated}
 use Rattle.fin_tensor.specs.declared.storage.Storage.{Storage}
@@ -19,7 +18,7 @@ use Rattle.fin_ast.specs.declared.tree.Expr.TheOpen.{Expr-F}
 use Rattle.fin_ast.specs.declared.tree.Stmt.{Stmt, fold-Stmt}
 use Rattle.fin_ast.specs.declared.tree.Stmt.TheOpen.{Stmt-F}
 use Rattle.fin_ast.specs.Value.{Numbers, Tensors, number_if, place, coordinates, value_of}
-use Rattle.fin_ast.specs.Dense.{Setting, Made, made_at, shape_at, range_of, setting_of, unbound}
+use Rattle.fin_ast.specs.Dense.{Setting, made_at, shape_at, range_of, setting_of, unbound}
 use Rattle.fin_stage.specs.Stages.{Stage, Absent, Built, Frozen, stage_at, kept, readable, work_of_declaration, work_of_storing}
 
 -- ---- the run so far

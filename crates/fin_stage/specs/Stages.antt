@@ -1,14 +1,12 @@
 -- The stage of a tensor in a run: not declared, being built, or frozen with its function.
-use Rattle.std.specs.Prelude.{ℕ, ◌+◌, ◌*◌, ◌^◌, Bool, true, false, not, ◌&&◌, if◌then◌else◌, ℤ, List, [], ◌∷◌, length, Option, Some, None, is_some, is_none, slice_index_or, slice_set, map}
+use Rattle.std.specs.Prelude.{ℕ, ◌+◌, ◌*◌, ◌^◌, Bool, true, false, if◌then◌else◌, List, [], ◌∷◌, length, Option, Some, None, slice_index_or}
 use Rattle.std.specs.Option.{option_or}
-use Rattle.fin_base.specs.Words.{apply}
-use Rattle.fin_base.specs.declared.reduce.Reduce.{Reduce}
 use Rattle.fin_tensor.specs.declared.format.Format.{Format}
 use Rattle.fin_tensor.specs.declared.format.Level.{Level}
 use Rattle.fin_tensor.specs.Placement.{is_dense}
 use Rattle.fin_tensor.specs.TensorFunction.{TensorFunction, value_at}
-use Rattle.fin_tensor.specs.Building.{Building, started, follows, updated}
-use Rattle.fin_tensor.specs.Canon.{canon_values, is_allowed, undecorated}
+use Rattle.fin_tensor.specs.Building.{Building}
+use Rattle.fin_tensor.specs.Canon.{canon_values, is_allowed}
 use Rattle.fin_ast.specs.Value.{Tensors}
 use Rattle.fin_ast.specs.Dense.{Made, made_at}
 
