@@ -7,8 +7,7 @@ pub(super) struct Row {
     pub(super) out: &'static [u8],
 }
 
-// What the three examples write was worked out by hand, as the comments say.
-pub(super) const ROWS: [Row; 19] = [
+pub(super) const ROWS: [Row; 16] = [
     // a sparse matrix times a vector
     Row {
         job: b"in A dense list element\nin x dense element\nout y dense element\ny .= 0\nfor i { for j { y[i] += A[i,j] * x[j] } }\n%%\ntensor A\nformat dense list element\nfill 0\nshape 2 3\nptr 1 0 2 3\nidx 1 0 2 1\nval 5 7 9\nend\ntensor x\nformat dense element\nfill 0\nshape 3\nval 1 2 3\nend\n",
@@ -88,21 +87,6 @@ pub(super) const ROWS: [Row; 19] = [
     Row {
         job: b"%%\n",
         out: b"",
-    },
-    // examples/reached.job: 0 leads to 1 and 2, these to 3, and 3 to 4; 5 is four edges away
-    Row {
-        job: b"# Which vertices of a graph are reached from vertex 0 by at most three edges; edge[i,j] is 1 where one leads from i to j.\nin edge dense list element\nout reached dense element\ntmp next dense element\nreached .= 0\nreached[0] or= 1\nfor step in 0..3 {\n  next .= 0\n  for i { for j { next[j] or= and(reached[i], edge[i,j]) } }\n  for j { reached[j] or= next[j] }\n}\n%%\ntensor edge\nformat dense list element\nfill 0\nshape 6 6\nptr 1 0 2 3 4 5 6 6\nidx 1 1 2 3 3 4 5\nval 1 1 1 1 1 1\nend\n",
-        out: b"tensor reached\nformat dense element\nfill 0\nshape 6\nval 1 1 1 1 1 0\nend\n",
-    },
-    // examples/matrices.job: 2 (0 4 0) - (0 8 -3) = (0 0 3); nothing; 3 (7 0 0) + 5 (0 6 0) = (21 30 0)
-    Row {
-        job: b"# The product of two sparse matrices, row by row: a row is summed up in a workspace, and then stored without its zeros.\nin A dense list element\nin B dense list element\nout C dense list element\ntmp row dense element\nC .= 0\nfor i {\n  row .= 0\n  for k { for j { row[j] += A[i,k] * B[k,j] } }\n  for j { C[i,j] += row[j] }\n}\n%%\ntensor A\nformat dense list element\nfill 0\nshape 3 4\nptr 1 0 2 2 4\nidx 1 0 2 1 3\nval 2 -1 3 5\nend\ntensor B\nformat dense list element\nfill 0\nshape 4 3\nptr 1 0 1 2 4 5\nidx 1 1 0 1 2 1\nval 4 7 8 -3 6\nend\n",
-        out: b"tensor C\nformat dense list element\nfill 0\nshape 3 3\nptr 1 0 1 1 3\nidx 1 2 0 1\nval 3 21 30\nend\n",
-    },
-    // examples/picture.job: rows 111111111, 111177711, 222737222 and 222222222
-    Row {
-        job: b"# Lays a figure over a picture: the figure hides the picture where it isn't 0. The picture is kept by runs of one colour.\nin picture dense runs element\nin figure dense band element\nout both dense runs element\nboth .= 0\nfor y { for x {\n  if figure[y,x] == 0 { both[y,x] = picture[y,x] }\n  if figure[y,x] != 0 { both[y,x] = figure[y,x] }\n} }\n%%\ntensor picture\nformat dense runs element\nfill 0\nshape 4 9\nptr 1 0 1 2 5 6\nstop 1 9 9 3 5 9 9\nval 1 1 2 3 2 2\nend\ntensor figure\nformat dense band element\nfill 0\nshape 4 9\nptr 1 0 0 3 6 6\nstart 1 0 4 3 0\nval 7 7 7 7 0 7\nend\n",
-        out: b"tensor both\nformat dense runs element\nfill 0\nshape 4 9\nptr 1 0 1 4 9 10\nstop 1 9 4 7 9 3 4 5 6 9 9\nval 1 1 7 1 2 7 3 7 2 2\nend\n",
     },
 ];
 
