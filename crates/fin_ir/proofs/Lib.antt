@@ -1,3 +1,5 @@
 pub mod Nodes
 pub mod Values
 pub mod Codes
+pub mod Growth
+pub mod Loops
