@@ -3,3 +3,6 @@ pub mod Values
 pub mod Codes
 pub mod Growth
 pub mod Loops
+pub mod Builds
+pub mod Freezing
+pub mod Seeks
