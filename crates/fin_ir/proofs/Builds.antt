@@ -1,6 +1,6 @@
 -- The test of what can be built, against its definition.
-use Rattle.std.proofs.Common.{◌≡◌, ◌≢◌, ℕ, zero, suc, ◌+◌, ◌<◌, ◌≤◌, ◌^◌, Bool, true, false, List, [], ◌∷◌, length, refl, sym, ap, ◌∙◌, arith, rules}
-use Rattle.std.specs.Prelude.{nat_le, nat_eq, not, ◌&&◌, slice_index, slice_index_or, IsTrue}
+use Rattle.std.proofs.Common.{◌≡◌, ◌≢◌, ℕ, zero, suc, ◌≤◌, ◌^◌, Bool, true, List, [], ◌∷◌, length, refl, ap, ◌∙◌, arith, rules}
+use Rattle.std.specs.Prelude.{nat_le, nat_eq, not, ◌&&◌}
 use Rattle.std.specs.List.{list_all}
 use Rattle.std.proofs.lemmas.Bool.{and_parts}
 use Rattle.std.proofs.lemmas.Bool.Decides.{nat_tests}
@@ -9,7 +9,7 @@ use Rattle.fin_tensor.specs.declared.format.Level.{Level}
 use Rattle.fin_tensor.specs.declared.format.Level.TheVariants.{Dense, List as SortedList, Runs, Band, Dict}
 use Rattle.fin_tensor.specs.declared.format.Wrap.{Wrap}
 use Rattle.fin_tensor.specs.declared.format.Wrap.TheVariants.{Bare, Atomic, Mutex, Shard}
-use Rattle.fin_tensor.specs.Placement.{RunsStandLast, Fits, IsPlaced, is_dense, is_dense_or_dict}
+use Rattle.fin_tensor.specs.Placement.{RunsStandLast, Fits, IsPlaced, is_dense}
 use Rattle.fin_tensor.specs.Extents.{dense_size}
 use Rattle.fin_tensor.specs.Levels.{AreSmall}
 use Rattle.fin_tensor.specs.Lines.{IsShape}

@@ -4,7 +4,7 @@ use Rattle.std.specs.Prelude.{if◌then◌else◌}
 use Rattle.fin_base.specs.declared.reduce.Reduce.{Reduce}
 use Rattle.fin_base.specs.declared.terms.Updated.{Updated}
 use Rattle.fin_ir.specs.declared.expression.IExpr.{IExpr}
-use Rattle.fin_ir.specs.declared.code.Code.{Code, para-Code, para-roll-Code, map-Code, roll-Code}
+use Rattle.fin_ir.specs.declared.code.Code.{Code, para-roll-Code, map-Code, roll-Code}
 use Rattle.fin_ir.specs.declared.code.Code.TheOpen.{Code-F}
 use Rattle.fin_ir.specs.declared.code.Code.TheVariants as c
 use Rattle.fin_ir.specs.declared.layout.Layout.{Layout}

@@ -1,5 +1,5 @@
 -- Canonical storages as plain lists, and which are valid by their size.
-use Rattle.std.proofs.Common.{◌≡◌, ℕ, ◌≤◌, ◌^◌, Bool, true, false, List, [], ◌∷◌, length, refl, sym, ap, ◌∙◌, ℤ, arith}
+use Rattle.std.proofs.Common.{◌≡◌, ℕ, ◌≤◌, ◌^◌, true, false, List, [], ◌∷◌, length, refl, ap, ◌∙◌, ℤ, arith}
 use Rattle.std.specs.Prelude.{nat_le, not, ◌&&◌}
 use Rattle.std.proofs.lemmas.Bool.{and_parts}
 use Rattle.std.proofs.lemmas.Bool.Decides.{nat_tests}
@@ -10,7 +10,7 @@ use Rattle.fin_tensor.specs.declared.storage.Storage.{Storage}
 use Rattle.fin_tensor.specs.TensorFunction.{value_at}
 use Rattle.fin_tensor.specs.Building.{Building}
 use Rattle.fin_tensor.specs.Canon.{Slice, kept, next, IsAllowed, IsAllowedIn, IsCanon}
-use Rattle.fin_ir.specs.Frozen.{Frozen, frozen_of, canon, are_few, is_large}
+use Rattle.fin_ir.specs.Frozen.{frozen_of, canon, are_few, is_large}
 
 pub few_allowed : (ls : List Level) (fill : ℤ) (ns : List ℕ) (fs : List Slice) → are_few ls fill ns fs ≡ true → IsAllowed ls fill ns fs
 few_allowed [] fill ns fs e = grind (arith, nat_tests)

@@ -1,16 +1,15 @@
 -- Charges, turns and effects only grow, a cut is paid for, and a run that isn't regular doesn't become so.
-use Rattle.std.proofs.Common.{◌≡◌, ℕ, zero, suc, ◌<◌, ◌≤◌, ◌+◌, ◌^◌, ◌⊎◌, inl, inr, ⊎_elim, Bool, true, false, List, [], ◌∷◌, ◌++◌, map, length, length-set, refl, sym, ap, subst, ◌∙◌, ℤ, pos, negsuc, ◌+ℤ◌, arith, append-nil, append_assoc, Option, Some, None}
+use Rattle.std.proofs.Common.{◌≡◌, ℕ, zero, suc, ◌<◌, ◌≤◌, ◌+◌, ◌^◌, ◌⊎◌, inl, inr, ⊎_elim, Bool, true, false, List, [], ◌∷◌, ◌++◌, map, length, length-set, refl, sym, ap, subst, ◌∙◌, ℤ, pos, ◌+ℤ◌, arith, append-nil, append_assoc, Option, Some, None}
 use Rattle.std.specs.Prelude.{int_lt, if◌then◌else◌}
 use Rattle.fin_base.specs.declared.reduce.Reduce.{Reduce}
-use Rattle.fin_tensor.specs.Building.{Building}
-use Rattle.fin_ir.specs.declared.code.Code.{Code, ind-Code, map-Code, roll-Code}
+use Rattle.fin_ir.specs.declared.code.Code.{Code, ind-Code, map-Code}
 use Rattle.fin_ir.specs.declared.code.Code.TheOpen.{Code-F}
 use Rattle.fin_ir.specs.declared.layout.Layout.{Layout}
 use Rattle.fin_ir.specs.Frozen.{canon, is_large}
-use Rattle.fin_ir.specs.Machine.{Tensor, nothing, building, stored, held, Effect, Machine, live, refused, set_tensor, assign, charge, count_turn, coordinates, can_update, put_own, put, listed, changed_by, update_at, update, can_declare, declare, cut_off, frozen_at, freeze, thawed, thawed_at, thaw, is_made}
+use Rattle.fin_ir.specs.Machine.{Tensor, nothing, building, stored, held, Effect, Machine, live, refused, set_tensor, assign, charge, count_turn, coordinates, can_update, put, listed, changed_by, update_at, update, can_declare, declare, cut_off, frozen_at, freeze, thawed, thawed_at, thaw, is_made}
 use Rattle.fin_ir.specs.Value.{value_in, is_off}
 use Rattle.fin_ir.specs.Declares.{declares}
-use Rattle.fin_ir.specs.Meaning.{Action, in_turn, next_of, count_before, step_turn, step_turns, step_loop, for_turn, for_turns, for_loop, span, forget_from, forget, opened, chunk, chunks, chunk_locals, chunks_of, in_chunks, is_range, par_loop, meaning_step, meaning, meaning_all}
+use Rattle.fin_ir.specs.Meaning.{Action, in_turn, next_of, count_before, step_turn, step_turns, for_turn, for_turns, span, forget_from, opened, chunk, chunks, chunk_locals, chunks_of, in_chunks, is_range, par_loop, meaning_step, meaning, meaning_all}
 use Rattle.fin_ir.proofs.Codes.{beside, meaning_node}
 
 pub record Grows (m m' : Machine) : Type 0 where

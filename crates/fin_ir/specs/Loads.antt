@@ -1,5 +1,5 @@
 -- What expressions read of a tensor that is a storage.
-use Rattle.std.specs.Prelude.{ℕ, ◌+◌, ◌-◌, Bool, true, false, ◌&&◌, nat_le, if◌then◌else◌, List, [], ◌∷◌, slice_index, slice_index_or, ℤ, pos, negsuc}
+use Rattle.std.specs.Prelude.{ℕ, ◌-◌, Bool, true, false, ◌&&◌, nat_le, if◌then◌else◌, List, [], slice_index, slice_index_or, ℤ, pos, negsuc}
 use Rattle.std.specs.List.{list_any, range_with_len}
 use Rattle.fin_tensor.specs.declared.part.Part.{Part}
 use Rattle.fin_tensor.specs.declared.part.Part.TheVariants.{Dense, Keys, Runs, Band}

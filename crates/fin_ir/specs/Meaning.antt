@@ -1,7 +1,6 @@
 -- What loop code does to a machine.
-use Rattle.std.specs.Prelude.{ℕ, zero, suc, ◌+◌, ◌-◌, ◌*◌, ◌/◌, ◌^◌, min, Bool, true, false, ◌&&◌, nat_le, if◌then◌else◌, List, [], ◌∷◌, map, slice_set, ℤ, pos, ◌+ℤ◌, ◌-ℤ◌, int_lt}
+use Rattle.std.specs.Prelude.{ℕ, zero, suc, ◌+◌, ◌-◌, ◌*◌, ◌/◌, ◌^◌, min, Bool, ◌&&◌, nat_le, if◌then◌else◌, List, [], ◌∷◌, map, slice_set, ℤ, pos, ◌+ℤ◌, ◌-ℤ◌, int_lt}
 use Rattle.std.specs.Int.{int_min, int_max}
-use Rattle.fin_ir.specs.declared.expression.IExpr.{IExpr}
 use Rattle.fin_ir.specs.declared.code.Code.{Code, para-Code}
 use Rattle.fin_ir.specs.declared.code.Code.TheOpen.{Code-F}
 use Rattle.fin_ir.specs.declared.layout.Layout.{Layout}

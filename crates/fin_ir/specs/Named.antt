@@ -1,5 +1,5 @@
 -- The locals and tensors that a code names.
-use Rattle.std.specs.Prelude.{ℕ, Bool, true, ◌&&◌, nat_lt, List, length}
+use Rattle.std.specs.Prelude.{ℕ, Bool, true, ◌&&◌, nat_lt, length}
 use Rattle.std.specs.List.{list_all}
 use Rattle.fin_ir.specs.declared.expression.IExpr.{IExpr, fold-IExpr}
 use Rattle.fin_ir.specs.declared.expression.IExpr.TheOpen.{IExpr-F}

@@ -1,5 +1,5 @@
 -- The value of an expression, for given locals and given tensors.
-use Rattle.std.specs.Prelude.{ℕ, suc, Bool, if◌then◌else◌, List, [], slice_index_or, ℤ, pos, negsuc}
+use Rattle.std.specs.Prelude.{ℕ, Bool, if◌then◌else◌, List, [], slice_index_or, ℤ, pos, negsuc}
 use Rattle.std.specs.Ordering.{int_eq}
 use Rattle.fin_base.specs.declared.reduce.Reduce.{Reduce}
 use Rattle.fin_base.specs.Words.{operate, negated, repeat}

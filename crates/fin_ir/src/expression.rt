@@ -57,5 +57,8 @@ pub enum IExpr {
         key: Boxed<IExpr>,
     },
     /// The value at a position; 0 out of range.
-    Val { tensor: u8, pos: Boxed<IExpr> },
+    Val {
+        tensor: u8,
+        pos: Boxed<IExpr>,
+    },
 }

@@ -10,6 +10,8 @@ mod code;
 mod copy;
 mod expression;
 mod layout;
+#[cfg(test)]
+mod tests;
 
 pub use code::Code;
 pub use expression::{IExpr, Table};
