@@ -8,6 +8,7 @@ pub mod Grouping
 pub mod Inside
 pub mod Kept
 pub mod Making
+pub mod Mapped
 pub mod Naming
 pub mod Nothing
 pub mod Placed

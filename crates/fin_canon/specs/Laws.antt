@@ -1,6 +1,7 @@
 -- What is true of canonical storages.
 use Rattle.std.specs.Prelude.{◌≡◌, ◌≢◌, ◌↔◌, ◌<◌, ℕ, ℤ, List, length, FitsSigned}
 use Rattle.std.specs.Int.{w64}
+use Rattle.std.specs.FinMap as finite
 use Rattle.fin_tensor.specs.declared.format.Format.{Format}
 use Rattle.fin_tensor.specs.declared.storage.Storage.{Storage}
 use Rattle.fin_tensor.specs.TensorFunction.{TensorFunction, IsTensor, value_at}
@@ -47,3 +48,7 @@ pub record IsNamedBy (shape : List ℕ) (fill : ℤ) (es : List Entry) (f : Tens
 
 abbrev pub NamedByEntries : Type 0
 NamedByEntries = (shape : List ℕ) (fill : ℤ) (es : List Entry) → AreEntries shape es → IsNamedBy shape fill es (named shape fill es)
+
+-- the entries of a tensor function, which are its values other than the fill, name it
+abbrev pub EntriesName : Type 0
+EntriesName = (f : TensorFunction) → IsTensor f → AreEntries f.shape (finite.entries f.cells) × (named f.shape f.fill (finite.entries f.cells) ≡ f)

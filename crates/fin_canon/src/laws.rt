@@ -1,4 +1,4 @@
-ghost use Rattle.fin_canon.specs.Laws.{CanonicalIsUnique, CanonicalIsValid, CanonicalStands, CanonicalStaysValid, NamedByEntries};
+ghost use Rattle.fin_canon.specs.Laws.{CanonicalIsUnique, CanonicalIsValid, CanonicalStands, CanonicalStaysValid, EntriesName, NamedByEntries};
 
 /// A canonical storage stands for its function.
 pub fn canonical_stands()
@@ -23,4 +23,9 @@ pub fn canonical_stays_valid()
 /// The function that entries name has their values at their coordinates, and the fill elsewhere.
 pub fn named_by_entries()
     ensures { NamedByEntries }
+{}
+
+/// The entries of a tensor function name it, so that they can be stored.
+pub fn entries_name()
+    ensures { EntriesName }
 {}

@@ -24,6 +24,6 @@ mod tests;
 
 pub use build::store;
 pub use laws::{
-    canonical_is_unique, canonical_is_valid, canonical_stands, canonical_stays_valid,
+    canonical_is_unique, canonical_is_valid, canonical_stands, canonical_stays_valid, entries_name,
     named_by_entries,
 };
