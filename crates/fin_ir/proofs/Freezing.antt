@@ -46,8 +46,8 @@ refused_is_large b h =
     ] refl
 
 -- a canonical storage is the one that the meaning names
-pub canon_is : (b : Building) (s : Storage) → b.function.fill ≡ b.format.fill → IsCanon (bare b.format) b.function s → frozen_of s ≡ canon b
-canon_is b s fill c =
+pub canon_is : (b : Building) (s : Storage) → IsCanon (bare b.format) b.function s → frozen_of s ≡ canon b
+canon_is b s c =
     ap (λ (f : Format). record (frozen_of s) { format = f }) c.format_is
     ∙ ap (λ (n : List ℕ). record (frozen_of s) { format = bare b.format; shape = n }) c.shape
     ∙ ap (λ (p : List _). record (frozen_of s) { format = bare b.format; shape = b.function.shape; parts = p }) c.parts

@@ -6,3 +6,4 @@ pub mod Loops
 pub mod Builds
 pub mod Freezing
 pub mod Seeks
+pub mod Fitting

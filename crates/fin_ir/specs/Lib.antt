@@ -6,4 +6,5 @@ pub mod Value
 pub mod Declares
 pub mod Meaning
 pub mod Named
+pub mod Start
 pub mod Regular

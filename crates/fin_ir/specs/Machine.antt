@@ -130,7 +130,7 @@ abbrev pub is_made : Layout → ℕ → Bool
 is_made layout t = not (nat_eq (slice_index_or layout.kinds t 0) 0)
 
 abbrev pub can_declare : Layout → ℕ → Bool
-can_declare layout t = is_made layout t && nat_lt t (length layout.formats) && can_build (format_at layout t) (shape_at layout t)
+can_declare layout t = is_made layout t && nat_lt t (length layout.formats) && nat_lt t (length layout.shapes) && can_build (format_at layout t) (shape_at layout t)
 
 abbrev pub declare : Layout → ℕ → Machine → Machine
 declare layout t m = live m (if can_declare layout t then set_tensor t (building (started (format_at layout t) (shape_at layout t))) m else refused m)

@@ -1,0 +1,6 @@
+//! A stub, which is replaced.
+#![tactic(auto)]
+
+mod freezes;
+
+pub use freezes::{freeze, thaw};

@@ -1,0 +1,90 @@
+//! The state of a run.
+ghost use Rattle.std.specs.Prelude.{◌≡◌, ℕ, ◌≤◌, List, IfOk, length, slice_set, drop, take};
+ghost use Rattle.fin_tensor.specs.declared.storage.Storage.{Storage};
+ghost use Rattle.fin_ir.specs.Start.{started};
+ghost use Rattle.fin_run.specs.States.{machine, lent_from, zeros};
+
+use fin_build::Builder;
+use fin_ir::Layout;
+use fin_tensor::{Storage, Vals};
+use std::alloc::{AllocError, Global};
+
+/// What a run holds of a tensor.
+#[derive(Drop)]
+pub enum Held {
+    Nothing,
+    /// The input storage of that number, in order.
+    Lent(u8),
+    Building(Builder),
+    Frozen(Storage),
+}
+
+/// The state of a run, beside the input storages.
+#[derive(Drop)]
+pub struct State {
+    pub locals: Vals,
+    pub tensors: Vec<Held>,
+    /// The charges so far.
+    pub work: u64,
+}
+
+impl State {
+    /// The inputs are lent in their order, all other tensors are nothing; the locals and the work are 0.
+    pub fn new(alloc: Global, layout: &Layout) -> Result<State, AllocError>
+        requires few { length layout.now.formats ≤ 256 }
+        requires kinds { length layout.now.kinds ≡ length layout.now.formats }
+        requires shapes { length layout.now.shapes ≡ length layout.now.formats }
+        ensures locals { IfOk result (λ s. s.locals ≡ zeros layout.now.locals) }
+        ensures tensors { IfOk result (λ s. s.tensors.items ≡ lent_from 0 layout.now.kinds) }
+        ensures work { IfOk result (λ s. s.work ≡ 0) }
+        ensures start { IfOk result (λ s. (inputs : List Storage) → machine inputs s 0 ≡ started layout.now inputs) }
+    {
+        let locals = zeros(alloc, layout.locals)?;
+        let tensors = lend(alloc, layout.kinds.as_slice())?;
+        Ok(State {
+            locals,
+            tensors,
+            work: 0,
+        })
+    }
+}
+
+fn zeros(alloc: Global, count: u32) -> Result<Vals, AllocError>
+    ensures { IfOk result (λ xs. xs ≡ zeros count) }
+{
+    let mut all = Vals::new(alloc);
+    for _ in 0..count {
+        all.push(0)?;
+    }
+    Ok(all)
+}
+
+fn lend(alloc: Global, kinds: &[u8]) -> Result<Vec<Held>, AllocError>
+    requires { length kinds.now ≤ 256 }
+    ensures { IfOk result (λ hs. hs.items ≡ lent_from 0 kinds.now) }
+{
+    let mut tensors = Vec::new(alloc);
+    let mut inputs = 0;
+    for kind in kinds {
+        let held = if *kind == 0 {
+            Held::Lent(inputs)
+        } else {
+            Held::Nothing
+        };
+        if *kind == 0 {
+            inputs = inputs.wrapping_add(1);
+        }
+        tensors.push(held)?;
+    }
+    Ok(tensors)
+}
+
+/// Sets a local, where there is one.
+pub fn set_local(locals: &mut Vals, local: u32, value: i64)
+    ensures { locals.new ≡ slice_set locals.old local value }
+{
+    let at = local as usize;
+    if at < locals.len() {
+        locals.set(at, value);
+    }
+}
