@@ -24,7 +24,7 @@ or_else true b e = refl
 or_else false b e = e
 
 -- some position of the count from `from` on holds
-found : (p : ℕ → Bool) (from count : ℕ) → list_any p (range_with_len from count) ≡ true → (k : ℕ) × (from ≤ k) × (k < from + count) × (p k ≡ true)
+pub found : (p : ℕ → Bool) (from count : ℕ) → list_any p (range_with_len from count) ≡ true → (k : ℕ) × (from ≤ k) × (k < from + count) × (p k ≡ true)
 found p from zero e = cc
 found p from (suc count) e =
     elim (p from) as (λ b. p from ≡ b → (k : ℕ) × (from ≤ k) × (k < from + suc count) × (p k ≡ true)) [
@@ -33,7 +33,7 @@ found p from (suc count) e =
           let q = found p (from + 1) count rest in (q.0, omega (arith, q.1), omega (arith, q.2), q.3))
     ] refl
 
-finds : (p : ℕ → Bool) (from count k : ℕ) → from ≤ k → k < from + count → p k ≡ true → list_any p (range_with_len from count) ≡ true
+pub finds : (p : ℕ → Bool) (from count k : ℕ) → from ≤ k → k < from + count → p k ≡ true → list_any p (range_with_len from count) ≡ true
 finds p from zero k lo hi e = absurd (omega arith)
 finds p from (suc count) k lo hi e =
     ⊎_elim (λ (h : from < k). or_else (p from) _ (finds p (from + 1) count k (omega arith) (omega arith) e)) (λ (h : k ≤ from). let here : from ≡ k = omega arith in either (p from) _ (ap p here ∙ e)) (cases_lt from k)

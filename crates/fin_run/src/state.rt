@@ -64,17 +64,14 @@ fn lend(alloc: Global, kinds: &[u8]) -> Result<Vec<Held>, AllocError>
     ensures { IfOk result (λ hs. hs.items ≡ lent_from 0 kinds.now) }
 {
     let mut tensors = Vec::new(alloc);
-    let mut inputs = 0;
+    let mut inputs: usize = 0;
     for kind in kinds {
-        let held = if *kind == 0 {
-            Held::Lent(inputs)
-        } else {
-            Held::Nothing
-        };
         if *kind == 0 {
-            inputs = inputs.wrapping_add(1);
+            tensors.push(Held::Lent(inputs as u8))?;
+            inputs += 1;
+        } else {
+            tensors.push(Held::Nothing)?;
         }
-        tensors.push(held)?;
     }
     Ok(tensors)
 }
