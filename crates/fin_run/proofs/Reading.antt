@@ -16,7 +16,7 @@ use Rattle.fin_run.specs.declared.state.Held.TheVariants.{Nothing, Lent, Buildin
 use Rattle.fin_run.specs.States.{tensor_of, tensors_of, reads, lent_from}
 use Rattle.fin_run.specs.Storages.{storage_of, storage_if, storage_in, shown}
 
-abbrev tensor_if : List Storage → Option Held → Tensor
+abbrev pub tensor_if : List Storage → Option Held → Tensor
 tensor_if inputs None = nothing
 tensor_if inputs (Some h) = tensor_of inputs h
 

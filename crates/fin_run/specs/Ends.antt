@@ -4,10 +4,13 @@ use Rattle.fin_tensor.specs.declared.storage.Storage.{Storage}
 use Rattle.fin_ir.specs.declared.layout.RunError.{RunError}
 use Rattle.fin_ir.specs.declared.layout.RunError.TheVariants.{Spent, Memory}
 use Rattle.fin_ir.specs.declared.expression.IExpr.{IExpr}
+use Rattle.fin_base.specs.Words.{apply}
+use Rattle.fin_tensor.specs.Building.{Building, updated}
 use Rattle.fin_ir.specs.Machine.{Machine}
 use Rattle.fin_ir.specs.Meaning.{Action}
 use Rattle.fin_ir.specs.Value.{value_in}
 use Rattle.fin_run.specs.declared.state.State.{State}
+use Rattle.fin_run.specs.declared.statements.Change.{Change}
 use Rattle.fin_run.specs.States.{machine}
 
 -- `leaves` is what the meaning leaves, `now` what the run left
@@ -37,3 +40,7 @@ Does budget f inputs s0 s1 (Err (Memory e)) = Unit {0}
 -- the value of an expression in a state
 abbrev pub evaluated : List Storage → State → IExpr → ℤ
 evaluated inputs s e = value_in (machine inputs s 0) e
+
+-- a building tensor with a value joined to one of its values
+abbrev pub joined : Change → List ℕ → Building → Building
+joined c at b = updated b at (λ old. apply c.by old c.value)

@@ -1,8 +1,11 @@
 //! Running loop code.
 #![tactic(auto)]
 
+mod declared;
 mod loads;
+mod places;
 mod state;
+mod statements;
 mod storages;
 mod value;
 

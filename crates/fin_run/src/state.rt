@@ -1,5 +1,5 @@
 //! The state of a run.
-ghost use Rattle.std.specs.Prelude.{◌≡◌, ℕ, ◌≤◌, List, IfOk, length, slice_set, drop, take};
+ghost use Rattle.std.specs.Prelude.{◌≡◌, ℕ, ◌≤◌, List, IfOk, length};
 ghost use Rattle.fin_tensor.specs.declared.storage.Storage.{Storage};
 ghost use Rattle.fin_ir.specs.Start.{started};
 ghost use Rattle.fin_run.specs.States.{machine, lent_from, zeros};
@@ -74,14 +74,4 @@ fn lend(alloc: Global, kinds: &[u8]) -> Result<Vec<Held>, AllocError>
         }
     }
     Ok(tensors)
-}
-
-/// Sets a local, where there is one.
-pub fn set_local(locals: &mut Vals, local: u32, value: i64)
-    ensures { locals.new ≡ slice_set locals.old local value }
-{
-    let at = local as usize;
-    if at < locals.len() {
-        locals.set(at, value);
-    }
 }

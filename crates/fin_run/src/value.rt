@@ -3,16 +3,29 @@ ghost use Rattle.std.specs.Prelude.{◌≡◌, slice_index_or, pos};
 ghost use Rattle.fin_ir.specs.Value.{value_of, times as times_of, extents_in, parts_in, words_in};
 ghost use Rattle.fin_ir.specs.Loads.{table_in, part_at, number_at, word_at, seek_in};
 ghost use Rattle.fin_run.specs.States.{reads};
+ghost use Rattle.fin_run.specs.Ends.{evaluated};
 
 use crate::loads::{cell, seek, word};
-use crate::state::Held;
+use crate::state::{Held, State};
 use crate::storages::storage_at;
 use fin_base::{Reduce, negate, operate, repeat};
 use fin_ir::{IExpr, Table};
 use fin_tensor::Storage;
 
-/// The value of an expression, over the input storages, what is held of the tensors, and the locals.
-pub fn value(inputs: &[Storage], tensors: &[Held], locals: &[i64], e: &IExpr) -> i64
+/// The value of an expression in a state.
+pub fn evaluate(inputs: &[Storage], state: &State, e: &IExpr) -> i64
+    ensures { result ≡ evaluated inputs.now state.now e.now }
+{
+    value(
+        inputs,
+        state.tensors.as_slice(),
+        state.locals.as_slice(),
+        e,
+    )
+}
+
+// The value over the input storages, what is held of the tensors, and the locals.
+fn value(inputs: &[Storage], tensors: &[Held], locals: &[i64], e: &IExpr) -> i64
     ensures { result ≡ value_of e.now (reads inputs.now tensors.now) locals.now }
 {
     match e {
