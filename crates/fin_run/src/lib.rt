@@ -1,6 +1,7 @@
 //! Running loop code.
 #![tactic(auto)]
 
+mod chunks;
 mod declared;
 mod loads;
 mod places;
