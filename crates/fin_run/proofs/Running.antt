@@ -226,3 +226,21 @@ module _ (own : ℕ → Bool) (body : Action) (f : ℕ × ℕ → List ℤ) wher
 
 pub still_cut : (lo hi : ℕ) (c d : Chunks) → IsCut lo hi c → d.lo ≡ c.lo → d.len ≡ c.len → d.count ≡ c.count → IsCut lo hi d
 still_cut lo hi c d h e1 e2 e3 = record { lo_is = e1 ∙ h.lo_is; len_is = e2 ∙ h.len_is; count_is = e3 ∙ h.count_is }
+
+pub chunks_smaller : (c d : Chunks) → nat_lt c.next c.count ≡ true → d.next ≡ c.next + 1 → d.count ≡ c.count → d.count - d.next < c.count - c.next
+chunks_smaller c d t e f = let lt : c.next < c.count = grind (arith, nat_tests) in omega arith
+
+module _ (own : ℕ → Bool) (body : Action) (f : ℕ × ℕ → List ℤ) (entry : List ℤ) (c : Chunks) where
+  -- the chunks after one, and the end of the loop
+  abbrev pub closing : Action
+  closing m = opened own entry (after_chunk own body f c m)
+
+  pub closing_grows : Growing body → Growing closing
+  closing_grows g m = grows_on m (after_chunk own body f c m) (closing m) (after_chunk_grows own body f g c m) (grows_opened own entry (after_chunk own body f c m))
+
+  pub open_turns : (leaves total m : Machine) → Growing body → leaves ≡ opened own entry total → total ≡ chunks own body (map f (left_of c)) m → m.turns ≤ leaves.turns
+  open_turns leaves total m g e t =
+      let h = (chunks_grow own body g (map f (left_of c)) m).turns in
+      let a = ap (λ (x : Machine). x.turns) e in
+      let b = ap (λ (x : Machine). x.turns) t in
+      omega (arith, h, a, b)

@@ -5,6 +5,7 @@ mod chunks;
 mod declared;
 mod loads;
 mod places;
+mod run;
 mod state;
 mod statements;
 mod storages;
