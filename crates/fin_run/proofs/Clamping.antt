@@ -1,5 +1,5 @@
 -- Where a turn of a loop by steps ends.
-use Rattle.std.proofs.Common.{◌≡◌, ℕ, ◌<◌, ◌^◌, true, List, sym, ap, ◌∙◌, ℤ, pos, ◌+ℤ◌, ◌<ℤ◌, w64, SFits, arith}
+use Rattle.std.proofs.Common.{◌≡◌, ℕ, ◌<◌, ◌^◌, true, List, ap, ◌∙◌, ℤ, pos, ◌+ℤ◌, ◌<ℤ◌, w64, SFits, arith}
 use Rattle.std.specs.Prelude.{int_lt, slice_set}
 use Rattle.std.specs.Int.{int_min, int_max}
 use Rattle.std.proofs.lemmas.Int.{to_z-of_z, ints}
@@ -7,7 +7,7 @@ use borrow.Author.Gap.{up_fits}
 use lib.Signed.{mag}
 use Rattle.fin_tensor.specs.declared.storage.Storage.{Storage}
 use Rattle.fin_ir.specs.declared.expression.IExpr.{IExpr}
-use Rattle.fin_ir.specs.Machine.{Machine, assign}
+use Rattle.fin_ir.specs.Machine.{assign}
 use Rattle.fin_ir.specs.Value.{value_in}
 use Rattle.fin_ir.specs.Meaning.{clamped, next_of}
 use Rattle.fin_run.specs.declared.state.State.{State}

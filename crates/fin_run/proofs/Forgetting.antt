@@ -1,11 +1,11 @@
 -- Tensors that are forgotten at a chunk's beginning.
-use Rattle.std.proofs.Common.{◌≡◌, ℕ, zero, suc, ◌+◌, ◌<◌, ◌≤◌, Bool, true, false, List, [], ◌∷◌, ◌++◌, map, set, take, drop, length, get_or, refl, sym, ap, ◌∙◌, arith, append_assoc, drop-cons, add-one, ℤ, pos, SFits, w64, to_z, of_z}
+use Rattle.std.proofs.Common.{◌≡◌, ℕ, ◌+◌, ◌<◌, ◌≤◌, Bool, true, false, List, [], ◌∷◌, ◌++◌, take, drop, length, refl, sym, ap, ◌∙◌, arith, append_assoc, drop-cons, add-one, ℤ, pos, w64, to_z, of_z}
 use Rattle.std.proofs.lemmas.Int.{to_z-of_z}
 use Rattle.std.specs.Prelude.{◌^◌}
 use Rattle.std.specs.Prelude.{if◌then◌else◌, slice_set, slice_index_or}
 use Rattle.std.proofs.lemmas.List.{take_more_set, drop-set-lt}
 use Rattle.fin_tensor.specs.declared.storage.Storage.{Storage}
-use Rattle.fin_ir.specs.Machine.{Tensor, nothing, Machine}
+use Rattle.fin_ir.specs.Machine.{Tensor, nothing}
 use Rattle.fin_ir.specs.Meaning.{forget_from, opened, chunk_locals}
 use Rattle.fin_run.specs.declared.state.Held.{Held}
 use Rattle.fin_run.specs.declared.state.State.{State}

@@ -1,6 +1,6 @@
 -- Searches and loads of a storage.
-use Rattle.std.proofs.Common.{◌≡◌, ℕ, zero, suc, ◌+◌, ◌-◌, ◌<◌, ◌≤◌, ◌^◌, Bool, true, false, List, [], ◌∷◌, length, refl, sym, ap, ◌∙◌, subst, ℤ, pos, negsuc, arith, ⊎_elim, SFits, w64, to_z, of_z}
-use Rattle.std.specs.Prelude.{nat_le, ◌&&◌, slice_index, slice_index_or, slice_get, Some, int_lt, nat_abs, if◌then◌else◌}
+use Rattle.std.proofs.Common.{◌≡◌, ℕ, ◌+◌, ◌-◌, ◌<◌, ◌≤◌, ◌^◌, Bool, true, false, List, length, refl, sym, ap, ◌∙◌, subst, ℤ, pos, negsuc, arith, ⊎_elim, SFits, w64, to_z, of_z}
+use Rattle.std.specs.Prelude.{nat_le, ◌&&◌, slice_index, slice_get, Some, int_lt, nat_abs}
 use Rattle.std.specs.List.{list_any, range_with_len}
 use Rattle.std.proofs.lemmas.Bool.{and_parts, cases_lt}
 use Rattle.std.proofs.lemmas.Bool.Decides.{nat_tests}
@@ -11,8 +11,8 @@ use Rattle.fin_tensor.specs.Levels.{AreSmall, IsPtr, IsLevel, IsStored, LiesInFi
 use Rattle.fin_tensor.proofs.Fibres.{ptr_rises, level_keys, level_runs, first_place}
 use Rattle.fin_tensor.proofs.Walk.{kind_at, got}
 use Rattle.fin_ir.specs.declared.expression.Table.{Table}
-use Rattle.fin_ir.specs.Loads.{part_at, has_numbers, holds, lies_in_fibre, table_in, sought, seek, seek_in}
-use Rattle.fin_ir.proofs.Seeks.{found, finds, tables_small, lies_of, sought_in}
+use Rattle.fin_ir.specs.Loads.{part_at, lies_in_fibre, table_in, seek, seek_in}
+use Rattle.fin_ir.proofs.Seeks.{found, finds, tables_small, sought_in}
 
 -- ---- fibres that are looked for
 
@@ -31,16 +31,16 @@ pub last_decides : (ptr : List ℕ) (from to low : ℕ) → IsPtr (length ptr - 
 last_decides ptr from to low is within begins last =
     both_ways (nat_le to (slice_index ptr (low + 1))) (list_any (around ptr from to) (range_with_len 0 (length ptr - 1)))
     (λ e. let here : nat_le (slice_index ptr low) from ≡ true = grind (arith, nat_tests) in
-        finds (around ptr from to) 0 (length ptr - 1) low (omega arith) (omega arith) (ap (λ b. b && nat_le to (slice_index ptr (low + 1))) here ∙ e))
+    finds (around ptr from to) 0 (length ptr - 1) low (omega arith) (omega arith) (ap (λ b. b && nat_le to (slice_index ptr (low + 1))) here ∙ e))
     (λ e. let q = found (around ptr from to) 0 (length ptr - 1) e in
-        let h = and_parts (nat_le (slice_index ptr q.0) from) (nat_le to (slice_index ptr (q.0 + 1))) q.3 in
-        let low_end : slice_index ptr q.0 ≤ from = (let g = h.0 in grind (arith, nat_tests)) in
-        let high_end : to ≤ slice_index ptr (q.0 + 1) = (let g = h.1 in grind (arith, nat_tests)) in
-        let in_range : q.0 < length ptr - 1 = omega (arith, q.2) in
-        let before : q.0 ≤ low = ⊎_elim (λ (l : low < q.0). let past = last q.0 l (omega arith) in omega arith) (λ (l : q.0 ≤ low). l) (cases_lt low q.0) in
-        let rises = ptr_rises (length ptr - 1) ptr is (q.0 + 1) (low + 1) (omega arith) (omega arith) in
-        let last_end : to ≤ slice_index ptr (low + 1) = omega arith in
-        grind (arith, nat_tests))
+    let h = and_parts (nat_le (slice_index ptr q.0) from) (nat_le to (slice_index ptr (q.0 + 1))) q.3 in
+    let low_end : slice_index ptr q.0 ≤ from = (let g = h.0 in grind (arith, nat_tests)) in
+    let high_end : to ≤ slice_index ptr (q.0 + 1) = (let g = h.1 in grind (arith, nat_tests)) in
+    let in_range : q.0 < length ptr - 1 = omega (arith, q.2) in
+    let before : q.0 ≤ low = ⊎_elim (λ (l : low < q.0). let past = last q.0 l (omega arith) in omega arith) (λ (l : q.0 ≤ low). l) (cases_lt low q.0) in
+    let rises = ptr_rises (length ptr - 1) ptr is (q.0 + 1) (low + 1) (omega arith) (omega arith) in
+    let last_end : to ≤ slice_index ptr (low + 1) = omega arith in
+    grind (arith, nat_tests))
 
 -- a middle place between two is one of them or lies between
 pub middle_rises : (ptr : List ℕ) (from middle p : ℕ) → IsPtr (length ptr - 1) ptr → from < slice_index ptr middle → middle ≤ p → p + 1 < length ptr → from < slice_index ptr p

@@ -1,5 +1,5 @@
 -- What loads read of what a run holds.
-use Rattle.std.proofs.Common.{◌≡◌, ℕ, zero, suc, List, [], ◌∷◌, map, refl, sym, ap, ◌∙◌, Option, Some, None, SFits, w64, to_z, of_z, ◌+◌, true, false}
+use Rattle.std.proofs.Common.{◌≡◌, ℕ, zero, suc, List, [], ◌∷◌, refl, sym, ap, ◌∙◌, Option, Some, None, SFits, w64, to_z, of_z, ◌+◌, true, false}
 use Rattle.std.proofs.lemmas.Int.{to_z-of_z}
 use Rattle.std.specs.Prelude.{slice_get, nat_eq, if◌then◌else◌}
 use Rattle.fin_tensor.specs.declared.part.Part.{Part}
@@ -14,7 +14,7 @@ use Rattle.fin_ir.specs.Value.{extents_in, parts_in, words_in}
 use Rattle.fin_run.specs.declared.state.Held.{Held}
 use Rattle.fin_run.specs.declared.state.Held.TheVariants.{Nothing, Lent, Building, Frozen}
 use Rattle.fin_run.specs.States.{tensor_of, tensors_of, reads, lent_from}
-use Rattle.fin_run.specs.Storages.{storage_of, storage_if, storage_in, shown}
+use Rattle.fin_run.specs.Storages.{storage_if, storage_in, shown}
 
 abbrev pub tensor_if : List Storage → Option Held → Tensor
 tensor_if inputs None = nothing

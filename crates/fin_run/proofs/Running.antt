@@ -1,9 +1,8 @@
 -- How runs end, over plain states.
 use Rattle.std.proofs.Common.{◌≡◌, ℕ, suc, ◌<◌, ◌≤◌, ◌+◌, ◌-◌, ◌^◌, Bool, true, false, List, [], ◌∷◌, map, refl, sym, ap, subst, ◌∙◌, ℤ, pos, ◌+ℤ◌, arith}
-use Rattle.std.specs.Prelude.{int_lt, nat_lt, nat_le, min, ◌&&◌, if◌then◌else◌, Ok, Err, Result}
+use Rattle.std.specs.Prelude.{int_lt, nat_lt, nat_le, min, if◌then◌else◌, Ok, Err, Result, OnOk}
 use Rattle.std.proofs.lemmas.Bool.{and_parts}
 use Rattle.std.proofs.lemmas.Bool.Decides.{nat_tests}
-use Rattle.fin_base.specs.declared.reduce.Reduce.{Reduce}
 use Rattle.fin_base.specs.declared.terms.Updated.{Updated}
 use Rattle.fin_tensor.specs.declared.storage.Storage.{Storage}
 use Rattle.fin_ir.specs.declared.expression.IExpr.{IExpr}
@@ -12,12 +11,12 @@ use Rattle.fin_ir.specs.declared.code.Code.TheVariants as c
 use Rattle.fin_ir.specs.declared.layout.Layout.{Layout}
 use Rattle.fin_ir.specs.declared.layout.RunError.{RunError}
 use Rattle.fin_ir.specs.declared.layout.RunError.TheVariants.{Spent, Memory}
-use Rattle.fin_ir.specs.Machine.{Machine, live, refused, assign, count_turn}
+use Rattle.fin_ir.specs.Machine.{Machine, refused, assign, count_turn}
 use Rattle.fin_ir.specs.Value.{value_in, is_off}
 use Rattle.fin_ir.specs.Declares.{declares}
-use Rattle.fin_ir.specs.Meaning.{Action, span, clamped, next_of, count_before, step_loop, for_loop, opened, chunks, chunk_locals, chunks_of, chunks_from, chunk_begin, in_chunks, is_range, par_loop, meaning, meaning_all}
+use Rattle.fin_ir.specs.Meaning.{Action, span, next_of, count_before, step_loop, for_loop, opened, chunks, chunk_locals, chunks_of, chunks_from, chunk_begin, in_chunks, is_range, par_loop, meaning, meaning_all}
 use Rattle.fin_ir.proofs.Codes.{meaning_seq, meaning_when, meaning_step_loop, meaning_for_loop, meaning_par_loop}
-use Rattle.fin_ir.proofs.Growth.{Grows, Growing, grows_on, grows_count, grows_before, step_turns_grow, for_turns_grow, chunks_grow, grows_opened, par_loop_grows, all_grow}
+use Rattle.fin_ir.proofs.Growth.{Grows, Growing, grows_on, grows_count, grows_before, step_turns_grow, for_turns_grow, chunks_grow, grows_opened}
 use Rattle.fin_ir.proofs.Loops.{step_goes, step_ends, for_goes, for_ends, span_next, span_one}
 use Rattle.fin_run.specs.declared.chunks.Chunks.{Chunks}
 use Rattle.fin_run.specs.declared.state.State.{State}
@@ -244,3 +243,21 @@ module _ (own : ℕ → Bool) (body : Action) (f : ℕ × ℕ → List ℤ) (ent
       let a = ap (λ (x : Machine). x.turns) e in
       let b = ap (λ (x : Machine). x.turns) t in
       omega (arith, h, a, b)
+
+-- ---- what an end says
+
+pub ends_leave : (b : ℕ) (leaves now : Machine) (r : Result (Unit {0}) RunError) → Ends b leaves now r → OnOk r (now ≡ leaves)
+ends_leave b leaves now (Ok u) h = h.0
+ends_leave b leaves now (Err e) h = tt
+
+pub ends_within : (b : ℕ) (leaves now : Machine) (r : Result (Unit {0}) RunError) → Ends b leaves now r → OnOk r (leaves.charges ≤ b)
+ends_within b leaves now (Ok u) h = h.1
+ends_within b leaves now (Err e) h = tt
+
+pub ends_spent : (b : ℕ) (leaves now : Machine) (r : Result (Unit {0}) RunError) → Ends b leaves now r → r ≡ Err Spent → b < leaves.charges
+ends_spent b leaves now r h e = (at_answer b leaves now r (Err Spent) e h).0
+
+pub ends_turns : (b : ℕ) (leaves now : Machine) (r : Result (Unit {0}) RunError) → Ends b leaves now r → now.turns ≤ leaves.turns
+ends_turns b leaves now (Ok u) h = let e = ap (λ (m : Machine). m.turns) h.0 in omega arith
+ends_turns b leaves now (Err Spent) h = h.1
+ends_turns b leaves now (Err (Memory a)) h = h

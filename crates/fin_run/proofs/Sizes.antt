@@ -1,5 +1,5 @@
 -- How large a code is, as a measure of its run.
-use Rattle.std.proofs.Common.{◌≡◌, ℕ, zero, suc, ◌+◌, ◌<◌, ◌≤◌, List, [], ◌∷◌, map, length, get_or, refl, sym, ap, ◌∙◌, arith}
+use Rattle.std.proofs.Common.{◌≡◌, ℕ, zero, suc, ◌+◌, ◌<◌, List, [], ◌∷◌, map, length, get_or, ap, ◌∙◌, arith}
 use Rattle.fin_base.specs.declared.terms.Updated.{Updated}
 use Rattle.fin_ir.specs.declared.expression.IExpr.{IExpr}
 use Rattle.fin_ir.specs.declared.code.Code.{Code, fold-Code}

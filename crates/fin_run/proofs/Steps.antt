@@ -1,5 +1,5 @@
 -- Single statements: what regular ones are asked for, and what they leave.
-use Rattle.std.proofs.Common.{◌≡◌, ℕ, zero, suc, ◌+◌, ◌<◌, ◌≤◌, ◌^◌, Bool, true, false, List, [], ◌∷◌, map, set, length, refl, sym, ap, ◌∙◌, subst, ℤ, pos, negsuc, arith, Option, Some, None, get_or, ◌++◌, take, SFits, Fits, T, w64, to_z, of_z}
+use Rattle.std.proofs.Common.{◌≡◌, ℕ, ◌+◌, ◌<◌, ◌≤◌, ◌^◌, Bool, true, false, List, [], ◌∷◌, map, length, refl, sym, ap, ◌∙◌, subst, ℤ, pos, negsuc, arith, Option, Some, None, get_or, ◌++◌, take, SFits, Fits, T, w64, to_z, of_z}
 use Rattle.std.specs.Prelude.{slice_get, slice_set, if◌then◌else◌, nat_abs, OnOk, Ok, Err, Result, nat_lt, ◌&&◌}
 use Rattle.std.specs.declared.alloc.AllocError.{AllocError}
 use lib.Signed.{non_neg}
@@ -14,18 +14,16 @@ use Rattle.fin_base.specs.declared.reduce.Reduce.{Reduce}
 use Rattle.fin_tensor.specs.declared.storage.Storage.{Storage}
 use Rattle.fin_tensor.specs.Building.{Building, started, CanBuild}
 use Rattle.fin_ir.specs.declared.layout.Layout.{Layout}
-use Rattle.fin_ir.specs.declared.expression.IExpr.{IExpr}
 use Rattle.fin_ir.specs.Frozen.{Frozen, frozen_of, canon, is_large}
-use Rattle.fin_ir.specs.Machine.{Tensor, nothing, building, stored, held, Effect, Machine, live, refused, set_tensor, with_first, coordinates, can_update, put, put_own, listed, changed_by, update_at, update, can_declare, format_at, shape_at, declare, cut_off, frozen_at, freeze, thawed, thawed_at, thaw, is_made, no_format}
+use Rattle.fin_ir.specs.Machine.{Tensor, nothing, building, stored, held, Effect, Machine, refused, set_tensor, with_first, coordinates, can_update, put, listed, changed_by, update_at, update, can_declare, format_at, shape_at, declare, cut_off, frozen_at, freeze, thawed, thawed_at, thaw, is_made, no_format}
 use Rattle.fin_ir.specs.Start.{given_if}
-use Rattle.fin_ir.specs.Value.{value_in}
 use Rattle.fin_run.specs.declared.state.Held.{Held}
 use Rattle.fin_run.specs.declared.state.Held.TheVariants as h
 use Rattle.fin_run.specs.declared.state.State.{State}
 use Rattle.fin_run.specs.declared.statements.Change.{Change}
 use Rattle.fin_run.specs.States.{tensor_of, tensors_of, machine}
-use Rattle.fin_run.specs.Storages.{storage_of, storage_if, storage_in}
-use Rattle.fin_run.specs.Ends.{IsReady, Did, evaluated, joined}
+use Rattle.fin_run.specs.Storages.{storage_if, storage_in}
+use Rattle.fin_run.specs.Ends.{joined}
 use Rattle.fin_run.proofs.Reading.{held_is, tensor_if}
 
 -- ---- coordinates

@@ -1,5 +1,5 @@
 -- How a run within a budget ends, against what the meaning leaves.
-use Rattle.std.specs.Prelude.{◌≡◌, ℕ, ◌<◌, ◌≤◌, true, List, map, ℤ, pos, Ok, Err, Result}
+use Rattle.std.specs.Prelude.{◌≡◌, ℕ, ◌<◌, ◌≤◌, true, List, ℤ, Ok, Err, Result}
 use Rattle.fin_tensor.specs.declared.storage.Storage.{Storage}
 use Rattle.fin_ir.specs.declared.layout.RunError.{RunError}
 use Rattle.fin_ir.specs.declared.layout.RunError.TheVariants.{Spent, Memory}

@@ -1,7 +1,6 @@
 -- A state of a run, beside the input storages, as the machine of loop code.
-use Rattle.std.specs.Prelude.{ℕ, ◌+◌, true, false, nat_eq, if◌then◌else◌, List, [], ◌∷◌, map, Option, Some, None, slice_get, slice_index_or, ℤ, pos, replicate}
+use Rattle.std.specs.Prelude.{ℕ, ◌+◌, true, false, nat_eq, if◌then◌else◌, List, [], ◌∷◌, map, ℤ, pos, replicate}
 use Rattle.fin_tensor.specs.declared.storage.Storage.{Storage}
-use Rattle.fin_ir.specs.declared.layout.Layout.{Layout}
 use Rattle.fin_ir.specs.Machine.{Tensor, nothing, building, stored, held, over, Machine}
 use Rattle.fin_ir.specs.Frozen.{frozen_of}
 use Rattle.fin_ir.specs.Start.{given}

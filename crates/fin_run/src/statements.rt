@@ -46,12 +46,7 @@ pub fn set_local(locals: &mut Vals, local: u32, v: i64)
 }
 
 /// The work rises by the value, where it is over 0.
-pub fn charge(
-    inputs: &[Storage],
-    state: &mut State,
-    e: &IExpr,
-    budget: u64,
-) -> Result<(), RunError>
+pub fn charge(inputs: &[Storage], state: &mut State, e: &IExpr, budget: u64) -> Result<(), RunError>
     requires work { state.old.work ≤ budget }
     requires budget { budget ≤ 2 ^ 40 }
     ensures { Does budget (λ m. charged (value_in m e.now) m) inputs.now state.old state.new result }

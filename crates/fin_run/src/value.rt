@@ -16,12 +16,7 @@ use fin_tensor::Storage;
 pub fn evaluate(inputs: &[Storage], state: &State, e: &IExpr) -> i64
     ensures { result ≡ evaluated inputs.now state.now e.now }
 {
-    value(
-        inputs,
-        state.tensors.as_slice(),
-        state.locals.as_slice(),
-        e,
-    )
+    value(inputs, state.tensors.as_slice(), state.locals.as_slice(), e)
 }
 
 // The value over the input storages, what is held of the tensors, and the locals.

@@ -1,4 +1,4 @@
-use Rattle.std.proofs.Common.{sym, ap, ◌∙◌, List, ℤ}
+use Rattle.std.proofs.Common.{ap, ◌∙◌, List, ℤ}
 use Rattle.fin_ir.specs.Declares.{declares}
 use Rattle.fin_ir.specs.Meaning.{opened}
 use Rattle.fin_run.specs.States.{machine}

@@ -1,4 +1,4 @@
-use Rattle.std.proofs.Common.{◌≡◌, ◌<◌, length, sym, ap, ◌∙◌, arith, w64, pos}
+use Rattle.std.proofs.Common.{◌<◌, length, ap, ◌∙◌, arith, w64}
 use Rattle.std.proofs.lemmas.Int.{to_z-of_z}
 use Rattle.fin_tensor.specs.declared.part.Part.TheVariants.{Dense}
 use Rattle.fin_tensor.proofs.Walk.{got}

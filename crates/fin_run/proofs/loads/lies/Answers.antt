@@ -1,4 +1,4 @@
-use Rattle.std.proofs.Common.{◌≡◌, ◌<◌, ◌-◌, length, List, ℕ, sym, ap, ◌∙◌, subst, arith}
+use Rattle.std.proofs.Common.{◌<◌, ◌-◌, length, List, ℕ, sym, ap, ◌∙◌, subst, arith}
 use Rattle.std.specs.List.{list_any, range_with_len}
 use Rattle.fin_tensor.specs.Levels.{IsPtr, fibres}
 use Rattle.fin_run.proofs.Loading.{around, keys_ptr, runs_ptr, keys_lie, runs_lie, others_lie_not, own_count}

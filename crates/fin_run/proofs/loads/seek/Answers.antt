@@ -1,7 +1,7 @@
-use Rattle.std.proofs.Common.{◌≡◌, ◌<◌, ◌≤◌, sym, ap, ◌∙◌, subst, arith, w64, pos, true, false, ℤ, SFits}
-use Rattle.std.specs.Prelude.{int_lt, nat_abs, slice_index}
+use Rattle.std.proofs.Common.{sym, ap, ◌∙◌, subst, arith, w64, pos, SFits}
+use Rattle.std.specs.Prelude.{nat_abs, slice_index}
 use Rattle.std.proofs.lemmas.Int.{to_z-of_z}
-use Rattle.fin_tensor.specs.Levels.{LiesInFibre, fibres, numbers_of, wanted}
+use Rattle.fin_tensor.specs.Levels.{fibres, numbers_of, wanted}
 use Rattle.fin_ir.specs.Loads.{part_at, seek_in}
 use Rattle.fin_ir.proofs.Seeks.{lies_of}
 use Rattle.fin_run.proofs.Loading.{within_end, seek_found, place_small, lies_order, rt}

@@ -1,22 +1,19 @@
-use Rattle.std.proofs.Common.{◌≡◌, ℕ, ℤ, ◌+◌, ◌≤◌, ◌<◌, List, [], drop, map, length, true, false, refl, sym, ap, ◌∙◌, subst, arith, pos}
-use Rattle.std.specs.Prelude.{Ok, Err}
+use Rattle.std.proofs.Common.{◌≡◌, ℕ, ℤ, ◌+◌, List, [], drop, map, refl, sym, ap, ◌∙◌, arith}
 use Rattle.std.proofs.lemmas.Result.{err_from_is_err_and}
 use Rattle.std.proofs.lemmas.List.{drop_all}
-use Rattle.fin_ir.specs.declared.code.Code.{Code}
 use Rattle.fin_ir.specs.declared.code.Code.TheVariants as code
 use Rattle.fin_ir.specs.declared.expression.IExpr.{IExpr}
 use Rattle.fin_ir.specs.Machine.{Machine, assign, charge, update, declare, freeze, thaw}
 use Rattle.fin_ir.specs.Declares.{declares}
 use Rattle.fin_ir.specs.Value.{value_in}
-use Rattle.fin_ir.specs.Meaning.{Action, meaning, meaning_all, step_loop, for_loop, par_loop, chunks, chunk_locals, chunks_of, opened}
+use Rattle.fin_ir.specs.Meaning.{Action, meaning, meaning_all, step_loop, for_loop, chunks, chunk_locals, opened}
 use Rattle.fin_ir.proofs.Codes.{meaning_skip, meaning_assign, meaning_update, meaning_declare, meaning_freeze, meaning_thaw, meaning_charge}
-use Rattle.fin_ir.proofs.Growth.{Growing, meaning_grows, all_grow, grows_update, grows_declare, grows_freeze, grows_thaw, grows_charge, par_loop_grows}
+use Rattle.fin_ir.proofs.Growth.{meaning_grows, all_grow, grows_update, grows_declare, grows_freeze, grows_thaw, grows_charge, par_loop_grows}
 use Rattle.fin_ir.proofs.Loops.{all_goes}
 use Rattle.fin_run.specs.States.{machine}
-use Rattle.fin_run.specs.Ends.{Ends, evaluated}
-use Rattle.fin_run.specs.Chunks.{left_of}
+use Rattle.fin_run.specs.Ends.{evaluated}
 use Rattle.fin_run.proofs.Sizes.{seq_falls, when_falls, step_falls, each_falls, chunk_falls, one_falls}
-use Rattle.fin_run.proofs.Steps.{update_asks, declare_asks, freeze_asks, thaw_asks, made_asks}
+use Rattle.fin_run.proofs.Steps.{declare_asks, freeze_asks, thaw_asks, made_asks}
 use Rattle.fin_run.proofs.Running.{ends_as, done, within_budget, at_answer, err_on_the_way, first_regular, ends_of_did, ends_of_does, leaf_arm, seq_arm, off_arm, on_arm, step_arm, each_arm, chunk_arm, regular_as, after_step, after_step_grows, step_first, step_left, step_over, step_smaller, after_each, after_each_grows, each_first, each_left, each_over, each_smaller, range_asks, range_runs, chunks_start, next_ends, after_chunk, after_chunk_grows, chunk_first, chunk_left, chunk_over, still_cut, open_turns, closing, closing_grows, chunks_smaller}
 use Rattle.fin_run.proofs.run.+run.Goals as goal
 

@@ -1,4 +1,4 @@
-use Rattle.std.proofs.Common.{◌≡◌, sym, ap, ◌∙◌, ℤ, ℕ, SFits, w64, pos, get_or}
+use Rattle.std.proofs.Common.{◌∙◌, ℤ, get_or}
 use Rattle.fin_ir.specs.declared.expression.IExpr.{IExpr}
 use Rattle.fin_run.specs.Ends.{evaluated}
 use Rattle.fin_run.proofs.Steps.{nth_point, point_fits, point_is, more_points}

@@ -1,4 +1,3 @@
-use Rattle.fin_run.specs.Ends.{joined}
 use Rattle.fin_run.proofs.Steps.{here_is, on_ok, set_same}
 use Rattle.fin_run.proofs.statements.put_at.Goals as goal
 

@@ -1,8 +1,5 @@
-use Rattle.std.proofs.Common.{◌≡◌, sym, ap, ◌∙◌, w64, Some}
+use Rattle.std.proofs.Common.{sym, ◌∙◌, w64}
 use Rattle.std.proofs.lemmas.Int.{to_z-of_z}
-use Rattle.fin_ir.specs.Loads.{seek_in}
-use Rattle.fin_ir.specs.Value.{extents_in, parts_in}
-use Rattle.fin_run.specs.States.{reads}
 use Rattle.fin_run.proofs.Reading.{none_place, seek_told}
 use Rattle.fin_run.proofs.value.seek_at.Goals as goal
 

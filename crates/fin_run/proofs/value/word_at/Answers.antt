@@ -1,4 +1,4 @@
-use Rattle.std.proofs.Common.{sym, ap, ◌∙◌}
+use Rattle.std.proofs.Common.{sym}
 use Rattle.fin_run.proofs.Reading.{none_word}
 use Rattle.fin_run.proofs.value.word_at.Goals as goal
 

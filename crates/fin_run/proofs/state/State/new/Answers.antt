@@ -1,4 +1,4 @@
-use Rattle.std.proofs.Common.{◌≡◌, List, ap, ◌∙◌, ℤ, ℕ}
+use Rattle.std.proofs.Common.{List, ap, ◌∙◌, ℤ, ℕ}
 use Rattle.fin_tensor.specs.declared.storage.Storage.{Storage}
 use Rattle.fin_ir.specs.Machine.{Tensor}
 use Rattle.fin_ir.specs.Start.{started}
