@@ -1,6 +1,0 @@
-//! A stub, which is replaced.
-#![tactic(auto)]
-
-mod freezes;
-
-pub use freezes::{freeze, thaw};
