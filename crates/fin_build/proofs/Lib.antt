@@ -1,2 +1,6 @@
+pub mod Joining
 pub mod Keeping
+pub mod Parting
+pub mod Rowing
 pub mod Telling
+pub mod Writing

@@ -1,53 +1,29 @@
 -- The entries of a tensor function are its values other than the fill.
-use Rattle.std.proofs.Common.{◌≡◌, ◌≢◌, ℕ, ◌<◌, List, [], ◌∷◌, refl, sym, ap, ◌∙◌, subst, ℤ, Bool, true, false, cond, Option, Some, None, IfSome, unwrap_or, length, map}
-use Rattle.std.specs.Prelude.{T, ◌&&◌, slice_index_or, Contains}
-use Rattle.std.specs.List.{AllByRecursion}
-use Rattle.std.specs.List.Sorted.{IsStrictlySortedBy}
-use Rattle.std.specs.Ordering.{nat_cmp, is_lt, eq_by_cmp}
+use Rattle.std.proofs.Common.{◌≡◌, ◌≢◌, ℕ, ◌<◌, List, [], ◌∷◌, refl, sym, ap, ◌∙◌, subst, ℤ, cond, Option, Some, None, IfSome, unwrap_or, length, map}
+use Rattle.std.specs.Prelude.{slice_index_or, Contains}
+use Rattle.std.specs.Ordering.{nat_cmp, eq_by_cmp}
 use Rattle.std.specs.Cmp.{eq_by_cmp_equiv}
 use Rattle.std.specs.Cmp.Lexicographic.{slice_cmp, nat_list_cmp_total}
 use Rattle.std.specs.Map.{lookup}
 use Rattle.std.specs.declared.cmp.Ordering.{Ordering}
-use Rattle.std.specs.declared.cmp.Ordering.TheVariants.{Less, Equal, Greater}
 use Rattle.std.specs.FinMap as finite
-use Rattle.std.specs.FinMap.Entries.{is_sorted, below_all, find}
+use Rattle.std.specs.FinMap.Entries.{find}
 use Rattle.std.proofs.lemmas.Map.Views.{Contains-from_lookup, lookup-from_Contains}
 use Rattle.std.proofs.lemmas.Map.Keys.{IsDistinct-from_sorted}
 use Rattle.std.proofs.lemmas.List.{get_or_default}
 use Rattle.fin_tensor.specs.TensorFunction.{TensorFunction, IsTensor, IsEntry, value_at}
 use Rattle.fin_tensor.proofs.Functions.{tied_are_same}
+use Rattle.fin_grid.proofs.Maps.{keys_rise}
 use Rattle.fin_build.specs.Entries.{Entry, AreEntriesOf}
 
 abbrev order : List ℕ → List ℕ → Ordering
 order = slice_cmp nat_cmp
 
-first : (a b : Bool) → T (a && b) → T a
-first true b h = tt
-first false b h = h
-
-second : (a b : Bool) → T (a && b) → T b
-second true b h = h
-second false b h = absurd h
-
-less : (o : Ordering) → T (is_lt o) → o ≡ Less
-less Less h = refl
-less Equal h = absurd h
-less Greater h = absurd h
-
-all_below : (cs : List ℕ) (es : List Entry) → T (below_all order cs es) → AllByRecursion (λ y. order cs y ≡ Less) (map (λ e. e.0) es)
-all_below cs [] h = tt
-all_below cs (e ∷ es) h = (less (order cs e.0) (first (is_lt (order cs e.0)) (below_all order cs es) h), all_below cs es (second (is_lt (order cs e.0)) (below_all order cs es) h))
-
-pub keys_rise : (es : List Entry) → T (is_sorted order es) → IsStrictlySortedBy order (map (λ e. e.0) es)
-unfolding IsStrictlySortedBy
-keys_rise [] h = tt
-keys_rise (e ∷ es) h = (all_below e.0 es (first (below_all order e.0 es) (is_sorted order es) h), keys_rise es (second (below_all order e.0 es) (is_sorted order es) h))
-
-looked_up : (es : List Entry) (q : List ℕ) → find order q es ≡ lookup (eq_by_cmp order q) es
+pub looked_up : (es : List Entry) (q : List ℕ) → find order q es ≡ lookup (eq_by_cmp order q) es
 looked_up [] q = refl
 looked_up (e ∷ es) q = ap (cond (eq_by_cmp order q e.0) (Some e.1)) (looked_up es q)
 
-contained : {A : Type 0} (xs : List A) (k : ℕ) (d : A) → k < length xs → Contains xs (slice_index_or xs k d)
+pub contained : {A : Type 0} (xs : List A) (k : ℕ) (d : A) → k < length xs → Contains xs (slice_index_or xs k d)
 contained xs k d lt = (k, lt, get_or_default xs k _ _ lt)
 
 module _ (f : TensorFunction) (t : IsTensor f) where
@@ -57,9 +33,9 @@ module _ (f : TensorFunction) (t : IsTensor f) where
   got : (e : Entry) → Contains es e → finite.get f.cells e.0 ≡ Some e.1
   got e h =
       finite.get-entries f.cells e.0 ∙ looked_up es e.0
-      ∙ lookup-from_Contains (eq_by_cmp_equiv nat_list_cmp_total) e.0 e.1 es (IsDistinct-from_sorted order (map (λ e. e.0) es) (keys_rise es (finite.entries_sorted f.cells))) h
+      ∙ lookup-from_Contains (eq_by_cmp_equiv nat_list_cmp_total) e.0 e.1 es (IsDistinct-from_sorted order (map (λ e. e.0) es) (keys_rise order es (finite.entries_sorted f.cells))) h
 
-  entry_is : (e : Entry) → Contains es e → IsEntry f.shape f.fill e.0 e.1
+  pub entry_is : (e : Entry) → Contains es e → IsEntry f.shape f.fill e.0 e.1
   entry_is e h = subst (λ (o : Option ℤ). IfSome o (IsEntry f.shape f.fill e.0)) (got e h) (t e.0)
 
   one : (e : Entry) → Contains es e → (e.1 ≡ value_at f e.0) × (e.1 ≢ f.fill)
@@ -73,7 +49,7 @@ module _ (f : TensorFunction) (t : IsTensor f) where
   told = record {
     each = λ k d lt. one (slice_index_or es k d) (contained es k d lt);
     all = λ cs ne. all_by cs (finite.get f.cells cs) refl ne;
-    rise = keys_rise es (finite.entries_sorted f.cells);
+    rise = keys_rise order es (finite.entries_sorted f.cells);
   }
 
 pub told_by : (f : TensorFunction) (all : List Entry) → IsTensor f → all ≡ finite.entries f.cells → AreEntriesOf f all

@@ -1,15 +1,19 @@
 //! The builder.
-ghost use Rattle.std.specs.Prelude.{◌≡◌, ◌<◌, ◌≤◌, nat_eq, if◌then◌else◌, None, length, IfOk, OnOk, OnErr, IsTrue};
+ghost use Rattle.std.specs.Prelude.{◌≡◌, ◌<◌, ◌≤◌, nat_eq, if◌then◌else◌, Some, None, length, IfOk, OnOk, OnErr, IsTrue};
 ghost use Rattle.std.specs.FinMap as finite;
-ghost use Rattle.fin_base.specs.Words.{apply as applied};
+ghost use Rattle.std.specs.List.{list_all};
+ghost use Rattle.fin_base.specs.Words.{apply as applied, identity};
 ghost use Rattle.fin_tensor.specs.TensorFunction.{is_in_box, value_at};
 ghost use Rattle.fin_tensor.specs.Building.{Building, CanBuild, started, follows as follows_of, updated};
-ghost use Rattle.fin_tensor.specs.Placement.{IsPlaced};
+ghost use Rattle.fin_tensor.specs.Placement.{IsPlaced, is_dense_or_dict};
 ghost use Rattle.fin_tensor.specs.Lines.{IsShape};
 ghost use Rattle.fin_build.specs.Builders.{IsBuilding, holds};
-ghost use Rattle.fin_build.specs.Entries.{AreEntriesOf};
+ghost use Rattle.fin_build.specs.Entries.{AreEntriesOf, AllInside};
+ghost use Rattle.fin_build.specs.Merging.{joined, IsMerged, IsPartlyJoined};
+ghost use Rattle.fin_build.specs.Parts.{AreRows, part_of, IsPartFor, replaced};
 
 use crate::places::{comes_before, last_of, point};
+use crate::rows::{last_after, rows_of, with_rows};
 use fin_base::Reduce;
 use fin_grid::Grid;
 use fin_tensor::{Coords, Format, Nums, ordered_levels};
@@ -134,5 +138,60 @@ impl Builder {
         ensures entries { IfOk result (λ es. AreEntriesOf self.now.function es.items) }
     {
         self.function.entries(alloc)
+    }
+
+    /// Joins all entries of another builder. After want of memory some first of its entries are joined.
+    pub fn merge(&mut self, other: &Builder, by: Reduce) -> Result<(), AllocError>
+        requires shape { self.old.function.shape ≡ other.now.function.shape }
+        requires levels { IsTrue (list_all is_dense_or_dict self.old.format.levels) }
+        requires identity { identity by ≡ Some other.now.function.fill }
+        ensures ok { OnOk result (self.new ≡ joined by (finite.entries other.now.function.cells) self.old) }
+        ensures merged { OnOk result (IsMerged by self.old.function other.now.function self.new.function) }
+        ensures err { OnErr result (IsPartlyJoined by (finite.entries other.now.function.cells) self.old self.new) }
+    {
+        other.is_building();
+        let entries = other.entries(self.alloc)?;
+        self.join(entries.as_slice(), by)
+    }
+
+    fn join(&mut self, entries: &[(Coords, i64)], by: Reduce) -> Result<(), AllocError>
+        requires inside { AllInside self.old.function.shape entries.now }
+        requires levels { IsTrue (list_all is_dense_or_dict self.old.format.levels) }
+        ensures ok { OnOk result (self.new ≡ joined by entries.now self.old) }
+        ensures err { OnErr result (IsPartlyJoined by entries.now self.old self.new) }
+    {
+        for entry in entries {
+            self.update(entry.0.as_slice(), by, entry.1)?;
+        }
+        Ok(())
+    }
+
+    /// The rows lo to hi - 1, which are first coordinates, as a builder whose first extent is hi - lo. Nothing was updated
+    /// in it.
+    pub fn part(&self, alloc: Global, lo: u64, hi: u64) -> Result<Builder, AllocError>
+        requires { AreRows lo hi self.now }
+        ensures { IfOk result (λ p. p ≡ part_of lo hi self.now) }
+    {
+        let function = rows_of(alloc, &self.function, lo, hi)?;
+        let format = self.format.copy(alloc)?;
+        Ok(Builder {
+            alloc,
+            format,
+            function,
+            last: None,
+        })
+    }
+
+    /// Puts a part's rows in the place of the rows lo to hi - 1. The last update is the part's, where it has one. After
+    /// want of memory the builder is only dropped.
+    pub fn replace(&mut self, lo: u64, hi: u64, part: Builder) -> Result<(), AllocError>
+        requires rows { AreRows lo hi self.old }
+        requires part { IsPartFor lo hi self.old part }
+        ensures { OnOk result (self.new ≡ replaced lo hi self.old part) }
+    {
+        part.is_building();
+        self.function = with_rows(self.alloc, &self.function, &part.function, lo, hi)?;
+        self.last = last_after(self.alloc, lo, &part.last, self.last.take());
+        Ok(())
     }
 }

@@ -7,5 +7,6 @@
 
 mod builder;
 mod places;
+mod rows;
 
 pub use builder::Builder;

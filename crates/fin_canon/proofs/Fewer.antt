@@ -92,7 +92,7 @@ both_right : (a b : Bool) → (a && b) ≡ true → b ≡ true
 both_right true b h = h
 both_right false b h = cc
 
-some_is : (x y : ℕ) → Some x ≡ Some y → x ≡ y
+pub some_is : (x y : ℕ) → Some x ≡ Some y → x ≡ y
 some_is x y e = ap (λ (o : Option ℕ). unwrap_or o 0) e
 
 eq_is : (a b : ℕ) → nat_eq a b ≡ true → a ≡ b
@@ -125,7 +125,7 @@ pub record IsInBlock (from to start i r : ℕ) : Type 0 where
   pub high : i - start < to - from
   pub is : r ≡ from + (i - start)
 
-in_block : (from to start i r : ℕ) → block_in from to start i ≡ Some r → IsInBlock from to start i r
+pub in_block : (from to start i r : ℕ) → block_in from to start i ≡ Some r → IsInBlock from to start i r
 in_block from to start i r e =
     elim (nat_lt i start) as (λ b. nat_lt i start ≡ b → (if b then None else (if nat_lt (i - start) (to - from) then Some (from + (i - start)) else None)) ≡ Some r → IsInBlock from to start i r) [
       | true ↦ λ t s. cc
@@ -136,7 +136,7 @@ in_block from to start i r e =
           ] refl
     ] refl e
 
-block_has : (from to start i : ℕ) → start ≤ i → i - start < to - from → block_in from to start i ≡ Some (from + (i - start))
+pub block_has : (from to start i : ℕ) → start ≤ i → i - start < to - from → block_in from to start i ≡ Some (from + (i - start))
 block_has from to start i le lt =
     let a : nat_lt i start ≡ false = grind (arith, nat_tests) in
     let b : nat_lt (i - start) (to - from) ≡ true = grind (arith, nat_tests) in
@@ -270,19 +270,19 @@ level_children l n count ns p ps val fill q f last h lt shows = absurd h
 times_up : (n a d : ℕ) → a * n ≤ (a + d) * n
 times_up n a d = let e : (a + d) * n ≡ a * n + d * n = grind arith in omega (arith, e)
 
-fibre_next : (n : ℕ) (p : Part) (q : ℕ) → fibre_to n p q ≡ fibre_from n p (q + 1)
+pub fibre_next : (n : ℕ) (p : Part) (q : ℕ) → fibre_to n p q ≡ fibre_from n p (q + 1)
 fibre_next n part.Dense q = let e : (q + 1) * n ≡ q * n + n = grind arith in sym e
 fibre_next n (part.Keys ptr idx) q = refl
 fibre_next n (part.Runs ptr stop) q = refl
 fibre_next n (part.Band ptr start) q = refl
 
-fibre_all : (n : ℕ) (p : Part) (count : ℕ) → fibre_from n p count ≡ positions n count p
+pub fibre_all : (n : ℕ) (p : Part) (count : ℕ) → fibre_from n p count ≡ positions n count p
 fibre_all n part.Dense count = refl
 fibre_all n (part.Keys ptr idx) count = refl
 fibre_all n (part.Runs ptr stop) count = refl
 fibre_all n (part.Band ptr start) count = refl
 
-fibres_climb : (l : Level) (n count : ℕ) (p : Part) → IsLevel l n count p → (a b : ℕ) → a ≤ b → b ≤ count → fibre_from n p a ≤ fibre_from n p b
+pub fibres_climb : (l : Level) (n count : ℕ) (p : Part) → IsLevel l n count p → (a b : ℕ) → a ≤ b → b ≤ count → fibre_from n p a ≤ fibre_from n p b
 fibres_climb level.Dense n count part.Dense h a b le up = let e : a + (b - a) ≡ b = omega arith in subst (λ (x : ℕ). a * n ≤ x * n) e (times_up n a (b - a))
 fibres_climb level.List n count (part.Keys ptr idx) h a b le up = ptr_rises count ptr h.0 a b le up
 fibres_climb level.Dict n count (part.Keys ptr idx) h a b le up = ptr_rises count ptr h.0 a b le up

@@ -1,5 +1,5 @@
 -- The entries of a tensor function name it.
-use Rattle.std.proofs.Common.{◌≡◌, ◌≢◌, ℕ, zero, suc, ◌+◌, ◌<◌, List, [], ◌∷◌, length, refl, sym, ap, ◌∙◌, subst, arith, ℤ, IsTrue, Bool, true, false, cond, Option, Some, None, IfSome, unwrap_or}
+use Rattle.std.proofs.Common.{◌≡◌, ℕ, zero, suc, ◌+◌, ◌<◌, List, [], ◌∷◌, length, refl, sym, ap, ◌∙◌, subst, arith, ℤ, Bool, true, false, cond, Option, Some, None, IfSome, unwrap_or}
 use Rattle.std.specs.Prelude.{T, ◌&&◌}
 use Rattle.std.specs.Ordering.{nat_cmp, is_lt, is_eq, ordering_reverse, eq_by_cmp}
 use Rattle.std.proofs.lemmas.Cmp.{tied_itself}

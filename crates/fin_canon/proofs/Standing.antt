@@ -90,7 +90,7 @@ first_at xs ks from to by n key j h r l before here =
     (λ k lo hi. omega (arith, holds_at xs ks from to by k h lo (omega (arith, h.ends)), before (k - from) (omega arith)))
     (λ lt. omega (arith, h.at j l))
 
-key_found : (xs : List ℕ) (from to key r : ℕ) → first_from xs key from (to - from) ≡ r → r < to → slice_index xs r ≡ key → key_in xs from to key ≡ Some r
+pub key_found : (xs : List ℕ) (from to key r : ℕ) → first_from xs key from (to - from) ≡ r → r < to → slice_index xs r ≡ key → key_in xs from to key ≡ Some r
 key_found xs from to key r e lt is =
     let a : nat_lt r to ≡ true = grind (arith, nat_tests) in
     let b : nat_eq (slice_index xs r) key ≡ true = grind (arith, nat_tests) in

@@ -1,0 +1,4 @@
+pub mod Filling
+pub mod Freezing
+pub mod Placing
+pub mod Walking
