@@ -7,3 +7,4 @@ pub mod Builds
 pub mod Freezing
 pub mod Seeks
 pub mod Fitting
+pub mod Asking

@@ -5,6 +5,7 @@ pub mod Machine
 pub mod Value
 pub mod Declares
 pub mod Meaning
+pub mod Asking
 pub mod Named
 pub mod Start
 pub mod Regular
