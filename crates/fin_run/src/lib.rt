@@ -14,6 +14,8 @@ mod run;
 mod state;
 mod statements;
 mod storages;
+#[cfg(test)]
+mod tests;
 mod value;
 mod whole;
 

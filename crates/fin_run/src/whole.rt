@@ -2,8 +2,8 @@
 ghost use Rattle.std.specs.Prelude.{◌≡◌, ◌<◌, ◌≤◌, ◌^◌, OnOk};
 ghost use Rattle.std.specs.Result.{IsErrOf};
 ghost use Rattle.fin_ir.specs.Meaning.{meaning};
-ghost use Rattle.fin_ir.specs.Regular.{Regular};
 ghost use Rattle.fin_run.specs.States.{machine};
+ghost use Rattle.fin_run.specs.Ends.{IsRegular};
 
 use crate::run::run;
 use crate::state::State;
@@ -34,7 +34,7 @@ pub fn run_code<L: Ledger>(
 ) -> Result<(), RunError>
     requires budget { budget ≤ 2 ^ 40 }
     requires work { state.old.work ≡ 0 }
-    requires regular { Regular layout.now code.now (machine inputs.now state.old steps.old) }
+    requires regular { IsRegular (meaning layout.now code.now) (machine inputs.now state.old steps.old) }
     ensures leaves { OnOk result (machine inputs.now state.new steps.new ≡ meaning layout.now code.now (machine inputs.now state.old steps.old)) }
     ensures within { OnOk result ((meaning layout.now code.now (machine inputs.now state.old steps.old)).charges ≤ budget) }
     ensures spent { IsErrOf result RunError.Spent → budget < (meaning layout.now code.now (machine inputs.now state.old steps.old)).charges }
