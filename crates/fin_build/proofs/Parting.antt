@@ -96,3 +96,9 @@ module _ (b a p q : Building) (lo hi : ℕ) (kb : IsBuilding b) (eb : b ≡ a) (
       let e : last ≡ last_after lo p.last b.last = el ∙ ap (last_after lo p.last) eo in
       let m : replaced lo hi b p ≡ record { format = b.format; function = f; last = last } = λ i. record { format = b.format; function = sym ef i; last = sym e i } in
       subst (λ (x : Building). IsBuilding x) m (put_building b kb lo hi rows_too p kp part_too)
+
+pub part_fits : (b a : Building) (lo hi : ℕ) (fm : Format) (f : TensorFunction) → b ≡ a → fm ≡ b.format → f ≡ rows_of lo hi b.function → IsPartFor lo hi a (record { format = fm; function = f; last = None })
+part_fits b a lo hi fm f e em ef = subst (λ (x : Building). IsPartFor lo hi x (record { format = fm; function = f; last = None })) e (record {
+  format_is = em;
+  shape_is = ap (λ (g : TensorFunction). g.shape) ef ∙ tabulated_shape (rows_shape lo hi b.function.shape) b.function.fill (λ cs. value_at b.function (moved (λ c. c + lo) cs));
+})

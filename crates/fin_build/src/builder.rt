@@ -170,7 +170,8 @@ impl Builder {
     /// in it.
     pub fn part(&self, alloc: Global, lo: u64, hi: u64) -> Result<Builder, AllocError>
         requires { AreRows lo hi self.now }
-        ensures { IfOk result (λ p. p ≡ part_of lo hi self.now) }
+        ensures value { IfOk result (λ p. p ≡ part_of lo hi self.now) }
+        ensures fits { IfOk result (λ p. IsPartFor lo hi self.now p) }
     {
         let function = rows_of(alloc, &self.function, lo, hi)?;
         let format = self.format.copy(alloc)?;

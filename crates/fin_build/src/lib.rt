@@ -8,5 +8,7 @@
 mod builder;
 mod places;
 mod rows;
+#[cfg(test)]
+mod tests;
 
 pub use builder::Builder;

@@ -5,5 +5,9 @@
 #![tactic(auto)]
 
 mod grid;
+mod places;
+#[cfg(test)]
+mod tests;
 
 pub use grid::Grid;
+pub use places::is_in_box;
