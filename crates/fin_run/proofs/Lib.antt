@@ -5,3 +5,4 @@ pub mod Clamping
 pub mod Forgetting
 pub mod Sizes
 pub mod Running
+pub mod Trying

@@ -2,12 +2,10 @@
 ghost use Rattle.std.specs.Prelude.{◌≡◌, ◌<◌, ◌≤◌, ◌^◌, map, true, slice_get, Some, [], IsTrue};
 ghost use Rattle.std.specs.List.{list_all};
 ghost use Rattle.fin_tensor.specs.Building.{Building};
-ghost use Rattle.fin_tensor.specs.declared.storage.Storage.{Storage as Stored};
 ghost use Rattle.fin_ir.specs.Asking.{asks_nothing as asks_nothing_of};
-ghost use Rattle.fin_ir.specs.Machine.{can_declare as can_declare_of, can_update as can_update_at, is_made};
+ghost use Rattle.fin_ir.specs.Machine.{can_declare as can_declare_of, can_update as can_update_at, is_made as is_made_in};
 ghost use Rattle.fin_ir.specs.Meaning.{meaning};
 ghost use Rattle.fin_run.specs.States.{machine};
-ghost use Rattle.fin_run.specs.Storages.{storage_in};
 ghost use Rattle.fin_run.specs.Ends.{IsRegular};
 
 use crate::storages::storage_at;
@@ -175,6 +173,92 @@ fn uncounted(
     counted::<Brand>(Blank::new(1), alloc, code, layout, inputs, state, budget)
 }
 
+fn can_declare(layout: &Layout, tensor: u8) -> bool
+    ensures { IsTrue result → can_declare_of layout.now tensor ≡ true }
+{
+    let t = tensor as usize;
+    if t >= layout.formats.len() || t >= layout.shapes.len() || !is_made(layout, tensor) {
+        return false;
+    }
+    let format = layout.formats.get(t);
+    let shape = layout.shapes.get(t);
+    if !keeps_placement(format) || !is_shape(format.levels.as_slice(), shape.as_slice()) {
+        return false;
+    }
+    has_small_dense_size(format.levels.as_slice(), shape.as_slice())
+}
+
+fn is_made(layout: &Layout, tensor: u8) -> bool
+    ensures { result ≡ is_made_in layout.now tensor }
+{
+    match layout.kinds.as_slice().get(tensor as usize) {
+        Some(kind) => *kind != 0,
+        None => false,
+    }
+}
+
+fn is_built(state: &State, tensor: u8) -> bool
+    ensures { IsTrue result → (b : Building) × (slice_get state.now.tensors.items tensor ≡ Some (Held.Building b)) }
+{
+    let t = tensor as usize;
+    if t >= state.tensors.len() {
+        return false;
+    }
+    match &state.tensors[t] {
+        Held::Building(_) => true,
+        _ => false,
+    }
+}
+
+fn can_update(state: &State, tensor: u8) -> bool
+    ensures { IsTrue result → (b : Building) × (slice_get state.now.tensors.items tensor ≡ Some (Held.Building b)) × (can_update_at b [] ≡ true) }
+{
+    let t = tensor as usize;
+    if t >= state.tensors.len() {
+        return false;
+    }
+    match &state.tensors[t] {
+        Held::Building(b) => is_in_box(b.shape().as_slice(), &[]) && b.follows(&[]),
+        _ => false,
+    }
+}
+
+// Whether a statement can be done here; an update is one without coordinates.
+fn is_regular(layout: &Layout, inputs: &[Storage], state: &State, code: &Code) -> bool
+    ensures { IsTrue result → IsRegular (meaning layout.now code.now) (machine inputs.now state.now 0) }
+{
+    match code {
+        Code::Declare { tensor } => can_declare(layout, *tensor),
+        Code::Update {
+            tensor,
+            at,
+            by: _,
+            value: _,
+        } => at.len() == 0 && can_update(state, *tensor),
+        Code::Freeze { tensor } => is_built(state, *tensor),
+        Code::Thaw { tensor } => match storage_at(inputs, state.tensors.as_slice(), *tensor) {
+            Some(_) => is_made(layout, *tensor),
+            None => false,
+        },
+        other => asks_nothing(other),
+    }
+}
+
+fn ran(
+    rt: &impl Abort,
+    alloc: Global,
+    code: &Code,
+    layout: &Layout,
+    inputs: &[Storage],
+    state: &mut State,
+    budget: u64,
+) -> Result<Result<(), RunError>, Fail> {
+    assert!(rt; is_regular(layout, inputs, state, code));
+    assert!(rt; budget <= AMPLE);
+    assert!(rt; state.work == 0);
+    Ok(uncounted(alloc, code, layout, inputs, state, budget))
+}
+
 // Runs code that asks nothing of tensors, from the beginning. The first local, and the work.
 fn outcome(rt: &impl Abort, alloc: Global, code: Code, budget: u64) -> Result<(i64, u64), Fail> {
     let layout = layout(alloc)?;
@@ -193,9 +277,15 @@ fn outcome(rt: &impl Abort, alloc: Global, code: Code, budget: u64) -> Result<(i
     assert!(rt; layout.kinds.len() == layout.formats.len());
     assert!(rt; layout.shapes.len() == layout.formats.len());
     let mut state = State::new(alloc, &layout)?;
-    assert!(rt; asks_nothing(&code));
-    assert!(rt; budget <= AMPLE);
-    uncounted(alloc, &code, &layout, inputs.as_slice(), &mut state, budget)?;
+    ran(
+        rt,
+        alloc,
+        &code,
+        &layout,
+        inputs.as_slice(),
+        &mut state,
+        budget,
+    )??;
     assert!(rt; state.locals.len() == 4);
     Ok((*state.locals.get(0), state.work))
 }
@@ -266,7 +356,10 @@ fn expressions(rt: HostRuntime) -> Result<(), Fail> {
         assert_eq!(rt; value_of(&rt, alloc, pick(alloc, test)?)?, expected);
     }
     for (count, expected) in [(3, 6), (0, 2), (-5, 2)] {
-        assert_eq!(rt; value_of(&rt, alloc, times(alloc, Reduce::Add, 2, count)?)?, expected);
+        assert_eq!(rt;
+            value_of(&rt, alloc, times(alloc, Reduce::Add, 2, count)?)?,
+            expected
+        );
     }
     // Level 1 has ptr 0 2 3 and idx 0 2 1.
     let cells = [
@@ -279,7 +372,10 @@ fn expressions(rt: HostRuntime) -> Result<(), Fail> {
         (7, Table::Ptr, 0, 0),
     ];
     for (level, table, at, expected) in cells {
-        assert_eq!(rt; value_of(&rt, alloc, cell(alloc, level, table, at)?)?, expected);
+        assert_eq!(rt;
+            value_of(&rt, alloc, cell(alloc, level, table, at)?)?,
+            expected
+        );
     }
     // From, to, key and the place; the last three lie in no fibre.
     let seeks = [
@@ -292,7 +388,10 @@ fn expressions(rt: HostRuntime) -> Result<(), Fail> {
         (0, 1, 2, 1, 1),
     ];
     for (level, from, to, key, expected) in seeks {
-        assert_eq!(rt; value_of(&rt, alloc, seek(alloc, level, from, to, key)?)?, expected);
+        assert_eq!(rt;
+            value_of(&rt, alloc, seek(alloc, level, from, to, key)?)?,
+            expected
+        );
     }
     for (pos, expected) in [(0, 5), (2, 9), (3, 0), (-1, 0)] {
         let e = IExpr::Val {
@@ -306,5 +405,187 @@ fn expressions(rt: HostRuntime) -> Result<(), Fail> {
         pos: number(alloc, 0)?,
     };
     assert_eq!(rt; value_of(&rt, alloc, unmade)?, 0);
+    Ok(())
+}
+
+fn then(mut all: Items<Code>, code: Code) -> Result<Items<Code>, AllocError> {
+    all.push(code)?;
+    Ok(all)
+}
+
+fn difference(alloc: Global, left: u32, right: u32) -> Result<IExpr, AllocError> {
+    let left = boxed(alloc, IExpr::Local(left))?;
+    let right = boxed(alloc, IExpr::Local(right))?;
+    Ok(IExpr::Two {
+        op: Op::Sub,
+        left,
+        right,
+    })
+}
+
+// Steps from 0 to 5 that charge how far they go, or 1.
+fn steps(alloc: Global, stop: i64, far: bool) -> Result<Code, AllocError> {
+    let charge = if far {
+        difference(alloc, 2, 1)?
+    } else {
+        IExpr::Num(1)
+    };
+    Ok(Code::StepLoop {
+        var: 1,
+        until: 2,
+        lo: IExpr::Num(0),
+        hi: IExpr::Num(5),
+        stop: IExpr::Num(stop),
+        body: Boxed::new(alloc, Code::Charge(charge))?,
+    })
+}
+
+fn each(alloc: Global, lo: i64, hi: i64) -> Result<Code, AllocError> {
+    Ok(Code::ForLoop {
+        var: 1,
+        lo: IExpr::Num(lo),
+        hi: IExpr::Num(hi),
+        body: Boxed::new(alloc, Code::Charge(IExpr::Local(1)))?,
+    })
+}
+
+fn chunk_body(alloc: Global) -> Result<Items<Code>, AllocError> {
+    let length = difference(alloc, 2, 1)?;
+    let all = then(Items::new(alloc), Code::Charge(length))?;
+    let all = then(all, Code::Charge(IExpr::Local(3)))?;
+    let all = then(
+        all,
+        Code::Assign {
+            local: 3,
+            value: IExpr::Num(1),
+        },
+    )?;
+    Ok(all)
+}
+
+// Chunks that charge how long they are, and what the local 3 is, which they set.
+fn chunks(alloc: Global, lo: u64, hi: u64) -> Result<Code, AllocError> {
+    let body = Boxed::new(alloc, Code::Seq(chunk_body(alloc)?))?;
+    Ok(Code::ParLoop {
+        from: 1,
+        to: 2,
+        lo,
+        hi,
+        ways: Seq::new(alloc),
+        body,
+    })
+}
+
+fn when(alloc: Global, test: i64, charge: i64) -> Result<Code, AllocError> {
+    Ok(Code::When {
+        test: IExpr::Num(test),
+        body: Boxed::new(alloc, Code::Charge(IExpr::Num(charge)))?,
+    })
+}
+
+#[test]
+fn loops(rt: HostRuntime) -> Result<(), Fail> {
+    let alloc = rt.alloc();
+    // A stop that goes backwards makes turns of one step, and one past the end a single turn.
+    for (stop, far, work) in [
+        (-3, false, 5),
+        (9, false, 1),
+        (-3, true, 5),
+        (9, true, 5),
+        (3, false, 3),
+    ] {
+        assert_eq!(rt;
+            outcome(&rt, alloc, steps(alloc, stop, far)?, AMPLE)?.1,
+            work
+        );
+    }
+    for (lo, hi, work) in [(2, 5, 9), (-3, 1, 0), (5, 2, 0)] {
+        assert_eq!(rt; outcome(&rt, alloc, each(alloc, lo, hi)?, AMPLE)?.1, work);
+    }
+    for (lo, hi, work) in [(10, 267, 257), (0, 3, 3), (4, 4, 0)] {
+        assert_eq!(rt; outcome(&rt, alloc, chunks(alloc, lo, hi)?, AMPLE)?.1, work);
+    }
+    for (test, charge, work) in [(0, 7, 0), (-2, 7, 7), (1, -7, 0)] {
+        assert_eq!(rt;
+            outcome(&rt, alloc, when(alloc, test, charge)?, AMPLE)?.1,
+            work
+        );
+    }
+    Ok(())
+}
+
+// The local tensor without levels goes through this statement.
+fn one(
+    rt: &impl Abort,
+    alloc: Global,
+    layout: &Layout,
+    state: &mut State,
+    code: &Code,
+) -> Result<(), Fail> {
+    ran(rt, alloc, code, layout, &[], state, AMPLE)??;
+    Ok(())
+}
+
+fn update(alloc: Global, value: i64) -> Code {
+    Code::Update {
+        tensor: 1,
+        at: Seq::new(alloc),
+        by: Reduce::Add,
+        value: IExpr::Num(value),
+    }
+}
+
+fn frozen_value(state: &State) -> i64 {
+    match state.tensors.as_slice().get(1) {
+        Some(Held::Frozen(storage)) if storage.val.len() == 1 => *storage.val.get(0),
+        _ => -1,
+    }
+}
+
+#[test]
+fn tensors(rt: HostRuntime) -> Result<(), Fail> {
+    let alloc = rt.alloc();
+    let layout = layout(alloc)?;
+    assert!(rt; layout.kinds.len() <= 256);
+    assert!(rt; layout.kinds.len() == layout.formats.len());
+    assert!(rt; layout.shapes.len() == layout.formats.len());
+    let mut state = State::new(alloc, &layout)?;
+    one(
+        &rt,
+        alloc,
+        &layout,
+        &mut state,
+        &Code::Declare { tensor: 1 },
+    )?;
+    one(&rt, alloc, &layout, &mut state, &update(alloc, 5))?;
+    one(&rt, alloc, &layout, &mut state, &Code::Freeze { tensor: 1 })?;
+    assert_eq!(rt; frozen_value(&state), 5);
+    one(&rt, alloc, &layout, &mut state, &Code::Thaw { tensor: 1 })?;
+    one(&rt, alloc, &layout, &mut state, &update(alloc, 2))?;
+    one(&rt, alloc, &layout, &mut state, &Code::Freeze { tensor: 1 })?;
+    assert_eq!(rt; frozen_value(&state), 7);
+
+    // Two blocks of 2^40 values and of one are too many.
+    let at = [
+        [0, 0].as_slice(),
+        [0, AMPLE - 1].as_slice(),
+        [1, 0].as_slice(),
+    ];
+    let levels = [Level::Dense, Level::Band];
+    let large = built(&rt, alloc, &levels, &[2, AMPLE], &at, &[1, 1, 1])?;
+    let mut tensors = Vec::new(alloc);
+    tensors.push(Held::Building(large))?;
+    state.tensors = tensors;
+    let freeze = Code::Freeze { tensor: 0 };
+    let cut = ran(&rt, alloc, &freeze, &layout, &[], &mut state, AMPLE)?;
+    assert!(rt; matches!(cut, Err(RunError::Spent)));
+
+    // A budget is kept to the last charge.
+    let charge = Code::Charge(IExpr::Num(5));
+    for (budget, spent) in [(5, false), (4, true)] {
+        state.work = 0;
+        let end = ran(&rt, alloc, &charge, &layout, &[], &mut state, budget)?;
+        assert_eq!(rt; matches!(end, Err(RunError::Spent)), spent);
+    }
     Ok(())
 }
