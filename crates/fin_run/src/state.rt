@@ -2,6 +2,7 @@
 ghost use Rattle.std.specs.Prelude.{◌≡◌, ℕ, ◌≤◌, List, IfOk, length};
 ghost use Rattle.fin_tensor.specs.declared.storage.Storage.{Storage};
 ghost use Rattle.fin_ir.specs.Start.{started};
+ghost use Rattle.fin_ir.specs.Regular.{IsLayout, InputsFit, Fits};
 ghost use Rattle.fin_run.specs.States.{machine, lent_from, zeros};
 
 use fin_build::Builder;
@@ -31,12 +32,11 @@ pub struct State {
 impl State {
     /// The inputs are lent in their order, all other tensors are nothing; the locals and the work are 0.
     pub fn new(alloc: Global, layout: &Layout) -> Result<State, AllocError>
-        requires few { length layout.now.formats ≤ 256 }
-        requires kinds { length layout.now.kinds ≡ length layout.now.formats }
-        requires shapes { length layout.now.shapes ≡ length layout.now.formats }
+        requires { IsLayout layout.now }
         ensures locals { IfOk result (λ s. s.locals ≡ zeros layout.now.locals) }
         ensures tensors { IfOk result (λ s. s.tensors.items ≡ lent_from 0 layout.now.kinds) }
         ensures work { IfOk result (λ s. s.work ≡ 0) }
+        ensures fits { IfOk result (λ s. (inputs : List Storage) → InputsFit layout.now inputs → Fits layout.now (machine inputs s 0)) }
         ensures start { IfOk result (λ s. (inputs : List Storage) → machine inputs s 0 ≡ started layout.now inputs) }
     {
         let locals = zeros(alloc, layout.locals)?;
