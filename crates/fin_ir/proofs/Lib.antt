@@ -1,0 +1,10 @@
+pub mod Nodes
+pub mod Values
+pub mod Codes
+pub mod Growth
+pub mod Loops
+pub mod Builds
+pub mod Freezing
+pub mod Seeks
+pub mod Fitting
+pub mod Asking

@@ -1,0 +1,11 @@
+pub mod Frozen
+pub mod CanBuild
+pub mod Loads
+pub mod Machine
+pub mod Value
+pub mod Declares
+pub mod Meaning
+pub mod Asking
+pub mod Named
+pub mod Start
+pub mod Regular

@@ -1,0 +1,4 @@
+pub mod States
+pub mod Storages
+pub mod Ends
+pub mod Chunks
