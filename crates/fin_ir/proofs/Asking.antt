@@ -1,15 +1,15 @@
 -- Code that asks nothing of tensors is regular.
 use Rattle.std.proofs.Common.{◌≡◌, ℕ, zero, suc, Bool, true, false, List, [], ◌∷◌, map, refl, sym, ap, subst, ◌∙◌, ℤ, pos, ◌+ℤ◌}
-use Rattle.std.specs.Prelude.{int_lt, if◌then◌else◌, ◌&&◌}
+use Rattle.std.specs.Prelude.{int_lt, if◌then◌else◌}
 use Rattle.std.specs.List.{list_all}
 use Rattle.std.proofs.lemmas.Bool.{and_parts}
-use Rattle.fin_ir.specs.declared.code.Code.{Code, ind-Code, map-Code, roll-Code, fold-Code, fold-roll-Code}
+use Rattle.fin_ir.specs.declared.code.Code.{Code, ind-Code, map-Code, fold-roll-Code}
 use Rattle.fin_ir.specs.declared.code.Code.TheOpen.{Code-F}
 use Rattle.fin_ir.specs.declared.layout.Layout.{Layout}
 use Rattle.fin_ir.specs.Machine.{Machine, live, refused, assign, charge, count_turn}
 use Rattle.fin_ir.specs.Value.{value_in, is_off}
 use Rattle.fin_ir.specs.Declares.{declares}
-use Rattle.fin_ir.specs.Meaning.{Action, in_turn, next_of, count_before, step_turn, step_turns, span, for_turn, for_turns, opened, chunk, chunks, chunk_locals, chunks_of, in_chunks, is_range, par_loop, meaning_step, meaning, meaning_all}
+use Rattle.fin_ir.specs.Meaning.{Action, in_turn, next_of, step_turn, step_turns, span, for_turn, for_turns, opened, chunk, chunks, chunk_locals, chunks_of, in_chunks, is_range, par_loop, meaning_step, meaning}
 use Rattle.fin_ir.specs.Asking.{asks_nothing_step, asks_nothing}
 use Rattle.fin_ir.proofs.Codes.{beside, meaning_node}
 

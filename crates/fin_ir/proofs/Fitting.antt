@@ -1,14 +1,13 @@
 -- A run begins where it fits.
-use Rattle.std.proofs.Common.{◌≡◌, ℕ, zero, suc, ◌+◌, ◌<◌, Bool, true, false, List, [], ◌∷◌, map, length, drop, add-one, refl, sym, ap, ◌∙◌, subst, arith, ℤ, pos, replicate, Option, Some, None}
+use Rattle.std.proofs.Common.{◌≡◌, ℕ, zero, suc, ◌+◌, ◌<◌, true, false, List, [], ◌∷◌, map, length, drop, add-one, refl, sym, ap, ◌∙◌, subst, arith, pos, Some}
 use Rattle.std.proofs.lemmas.List.{length-replicate}
 use Rattle.std.specs.Prelude.{nat_eq, if◌then◌else◌, slice_get, slice_index_or}
 use Rattle.fin_tensor.specs.declared.format.Format.{Format}
 use Rattle.fin_tensor.specs.declared.storage.Storage.{Storage}
 use Rattle.fin_ir.specs.declared.layout.Layout.{Layout}
-use Rattle.fin_ir.specs.Frozen.{frozen_of}
-use Rattle.fin_ir.specs.Machine.{Tensor, nothing, stored, held, format_at, shape_at, no_format}
+use Rattle.fin_ir.specs.Machine.{nothing, held, no_format}
 use Rattle.fin_ir.specs.Start.{given_if, given, first_tensors, started}
-use Rattle.fin_ir.specs.Regular.{IsLayout, InputsFit, input_boxes, IsOf, Fits}
+use Rattle.fin_ir.specs.Regular.{InputsFit, input_boxes, IsOf, Fits}
 
 abbrev box_of : Storage → Format × List ℕ
 box_of s = (s.format, s.shape)

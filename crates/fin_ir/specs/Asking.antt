@@ -1,5 +1,5 @@
 -- Code that asks nothing of tensors.
-use Rattle.std.specs.Prelude.{Bool, true, false, ◌&&◌, List}
+use Rattle.std.specs.Prelude.{Bool, true, false, ◌&&◌}
 use Rattle.std.specs.List.{list_all}
 use Rattle.fin_ir.specs.declared.code.Code.{Code, fold-Code}
 use Rattle.fin_ir.specs.declared.code.Code.TheOpen.{Code-F}

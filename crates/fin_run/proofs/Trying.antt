@@ -1,5 +1,5 @@
 -- Statements that can be done are regular.
-use Rattle.std.proofs.Common.{◌≡◌, ℕ, Bool, true, false, List, [], ◌∷◌, length, ◌<◌, ◌≤◌, ◌^◌, arith, refl, sym, ap, ◌∙◌, ℤ, Some}
+use Rattle.std.proofs.Common.{◌≡◌, ℕ, Bool, true, false, List, [], ◌∷◌, length, ◌<◌, ◌≤◌, ◌^◌, arith, refl, ap, ◌∙◌, ℤ, Some}
 use Rattle.std.specs.Prelude.{slice_get, if◌then◌else◌, nat_lt, ◌&&◌}
 use Rattle.std.proofs.lemmas.Bool.Decides.{nat_tests}
 use Rattle.std.proofs.lemmas.Option.{get_or_from_slice_get}
@@ -15,7 +15,7 @@ use Rattle.fin_tensor.specs.declared.storage.Storage.{Storage}
 use Rattle.fin_tensor.specs.Building.{Building, started}
 use Rattle.fin_ir.specs.declared.layout.Layout.{Layout}
 use Rattle.fin_ir.specs.Frozen.{frozen_of, canon, is_large}
-use Rattle.fin_ir.specs.Machine.{Tensor, building, stored, Effect, Machine, refused, set_tensor, can_update, put, changed_by, update, can_declare, format_at, shape_at, no_format, declare, cut_off, frozen_at, freeze, thawed, thawed_at, thaw, is_made}
+use Rattle.fin_ir.specs.Machine.{building, stored, Effect, Machine, refused, set_tensor, can_update, put, changed_by, update, can_declare, format_at, shape_at, no_format, declare, cut_off, frozen_at, freeze, thawed, thawed_at, thaw, is_made}
 use Rattle.fin_run.specs.declared.state.Held.TheVariants as h
 use Rattle.fin_run.specs.declared.state.State.{State}
 use Rattle.fin_run.specs.States.{machine}
