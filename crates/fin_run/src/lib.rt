@@ -10,6 +10,8 @@ mod chunks;
 mod declared;
 mod loads;
 mod places;
+#[cfg(test)]
+mod regularity;
 mod run;
 mod state;
 mod statements;

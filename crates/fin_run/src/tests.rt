@@ -1,14 +1,10 @@
 //! What no clause says: that runs end with memory to spare, on codes whose outcome was worked out by hand.
-ghost use Rattle.std.specs.Prelude.{◌≡◌, ◌<◌, ◌≤◌, ◌^◌, map, true, slice_get, Some, [], IsTrue};
-ghost use Rattle.std.specs.List.{list_all};
-ghost use Rattle.fin_tensor.specs.Building.{Building};
-ghost use Rattle.fin_ir.specs.Asking.{asks_nothing as asks_nothing_of};
-ghost use Rattle.fin_ir.specs.Machine.{can_declare as can_declare_of, can_update as can_update_at, is_made as is_made_in};
+ghost use Rattle.std.specs.Prelude.{◌≡◌, ◌<◌, ◌≤◌, ◌^◌};
 ghost use Rattle.fin_ir.specs.Meaning.{meaning};
 ghost use Rattle.fin_run.specs.States.{machine};
 ghost use Rattle.fin_run.specs.Ends.{IsRegular};
 
-use crate::storages::storage_at;
+use crate::regularity::is_regular;
 use crate::{Held, State, run_code};
 use fin_base::{Op, Reduce, Steps};
 use fin_build::Builder;
@@ -82,62 +78,6 @@ fn layout(alloc: Global) -> Result<Layout, AllocError> {
     })
 }
 
-#[cycle(asking)]
-fn asks_nothing(code: &Code) -> bool
-    ensures { result ≡ asks_nothing_of code.now }
-{
-    match code {
-        Code::Skip => true,
-        Code::Seq(all) => all_ask_nothing(all.as_slice()),
-        Code::Assign { local: _, value: _ } => true,
-        Code::When { test: _, body } => asks_nothing(body.get()),
-        Code::StepLoop {
-            var: _,
-            until: _,
-            lo: _,
-            hi: _,
-            stop: _,
-            body,
-        } => asks_nothing(body.get()),
-        Code::ForLoop {
-            var: _,
-            lo: _,
-            hi: _,
-            body,
-        } => asks_nothing(body.get()),
-        Code::ParLoop {
-            from: _,
-            to: _,
-            lo,
-            hi,
-            ways: _,
-            body,
-        } => *lo <= *hi && *hi <= AMPLE && asks_nothing(body.get()),
-        Code::Update {
-            tensor: _,
-            at: _,
-            by: _,
-            value: _,
-        } => false,
-        Code::Declare { tensor: _ } => false,
-        Code::Freeze { tensor: _ } => false,
-        Code::Thaw { tensor: _ } => false,
-        Code::Charge(_) => true,
-    }
-}
-
-#[cycle(asking)]
-fn all_ask_nothing(all: &[Code]) -> bool
-    ensures { result ≡ list_all (λ b. b) (map asks_nothing_of all.now) }
-{
-    for code in all {
-        if !asks_nothing(code) {
-            return false;
-        }
-    }
-    true
-}
-
 fn counted<L: Ledger>(
     blank: Blank,
     alloc: Global,
@@ -171,77 +111,6 @@ fn uncounted(
     requires regular { IsRegular (meaning layout.now code.now) (machine inputs.now state.old 0) }
 {
     counted::<Brand>(Blank::new(1), alloc, code, layout, inputs, state, budget)
-}
-
-fn can_declare(layout: &Layout, tensor: u8) -> bool
-    ensures { IsTrue result → can_declare_of layout.now tensor ≡ true }
-{
-    let t = tensor as usize;
-    if t >= layout.formats.len() || t >= layout.shapes.len() || !is_made(layout, tensor) {
-        return false;
-    }
-    let format = layout.formats.get(t);
-    let shape = layout.shapes.get(t);
-    if !keeps_placement(format) || !is_shape(format.levels.as_slice(), shape.as_slice()) {
-        return false;
-    }
-    has_small_dense_size(format.levels.as_slice(), shape.as_slice())
-}
-
-fn is_made(layout: &Layout, tensor: u8) -> bool
-    ensures { result ≡ is_made_in layout.now tensor }
-{
-    match layout.kinds.as_slice().get(tensor as usize) {
-        Some(kind) => *kind != 0,
-        None => false,
-    }
-}
-
-fn is_built(state: &State, tensor: u8) -> bool
-    ensures { IsTrue result → (b : Building) × (slice_get state.now.tensors.items tensor ≡ Some (Held.Building b)) }
-{
-    let t = tensor as usize;
-    if t >= state.tensors.len() {
-        return false;
-    }
-    match &state.tensors[t] {
-        Held::Building(_) => true,
-        _ => false,
-    }
-}
-
-fn can_update(state: &State, tensor: u8) -> bool
-    ensures { IsTrue result → (b : Building) × (slice_get state.now.tensors.items tensor ≡ Some (Held.Building b)) × (can_update_at b [] ≡ true) }
-{
-    let t = tensor as usize;
-    if t >= state.tensors.len() {
-        return false;
-    }
-    match &state.tensors[t] {
-        Held::Building(b) => is_in_box(b.shape().as_slice(), &[]) && b.follows(&[]),
-        _ => false,
-    }
-}
-
-// Whether a statement can be done here; an update is one without coordinates.
-fn is_regular(layout: &Layout, inputs: &[Storage], state: &State, code: &Code) -> bool
-    ensures { IsTrue result → IsRegular (meaning layout.now code.now) (machine inputs.now state.now 0) }
-{
-    match code {
-        Code::Declare { tensor } => can_declare(layout, *tensor),
-        Code::Update {
-            tensor,
-            at,
-            by: _,
-            value: _,
-        } => at.len() == 0 && can_update(state, *tensor),
-        Code::Freeze { tensor } => is_built(state, *tensor),
-        Code::Thaw { tensor } => match storage_at(inputs, state.tensors.as_slice(), *tensor) {
-            Some(_) => is_made(layout, *tensor),
-            None => false,
-        },
-        other => asks_nothing(other),
-    }
 }
 
 fn ran(
@@ -299,11 +168,6 @@ fn number(alloc: Global, n: i64) -> Result<Boxed<IExpr>, AllocError> {
     boxed(alloc, IExpr::Num(n))
 }
 
-fn assign(alloc: Global, value: IExpr) -> Result<Code, AllocError> {
-    let _ = alloc;
-    Ok(Code::Assign { local: 0, value })
-}
-
 fn cell(alloc: Global, level: u8, table: Table, at: i64) -> Result<IExpr, AllocError> {
     Ok(IExpr::Cell {
         tensor: 0,
@@ -341,7 +205,7 @@ fn pick(alloc: Global, test: i64) -> Result<IExpr, AllocError> {
 
 // The value of an expression over an input with the rows 5 _ 7 and _ 9 _.
 fn value_of(rt: &impl Abort, alloc: Global, e: IExpr) -> Result<i64, Fail> {
-    let code = assign(alloc, e)?;
+    let code = Code::Assign { local: 0, value: e };
     let (value, _) = outcome(rt, alloc, code, AMPLE)?;
     Ok(value)
 }

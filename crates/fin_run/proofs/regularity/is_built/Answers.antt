@@ -1,6 +1,6 @@
 use Rattle.std.proofs.Common.{◌<◌, length, sym, ap, ◌∙◌, arith, Some}
 use Rattle.std.proofs.lemmas.Option.{slice_get-get_or}
-use Rattle.fin_run.proofs.tests.is_built.Goals as goal
+use Rattle.fin_run.proofs.regularity.is_built.Goals as goal
 
 pub returns-in-Building : goal.returns-in-Building
 returns-in-Building c = λ t.

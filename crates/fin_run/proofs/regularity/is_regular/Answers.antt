@@ -9,7 +9,7 @@ use Rattle.fin_run.specs.States.{machine}
 use Rattle.fin_run.specs.Storages.{storage_in}
 use Rattle.fin_run.proofs.Running.{leaf_arm, regular_as}
 use Rattle.fin_run.proofs.Trying.{declare_regular, update_regular, freeze_regular, thaw_regular, no_indices}
-use Rattle.fin_run.proofs.tests.is_regular.Goals as goal
+use Rattle.fin_run.proofs.regularity.is_regular.Goals as goal
 
 pub returns-in-Declare : goal.returns-in-Declare
 returns-in-Declare c = λ t.

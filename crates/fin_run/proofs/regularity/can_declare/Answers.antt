@@ -3,7 +3,7 @@ use Rattle.fin_tensor.specs.declared.format.Level.{Level}
 use Rattle.fin_tensor.specs.Lines.{IsShape}
 use Rattle.fin_tensor.specs.Extents.{dense_size}
 use Rattle.fin_run.proofs.Trying.{declares_by}
-use Rattle.fin_run.proofs.tests.can_declare.Goals as goal
+use Rattle.fin_run.proofs.regularity.can_declare.Goals as goal
 
 pub returns : goal.returns
 returns c = λ t.

@@ -3,7 +3,7 @@ use Rattle.std.specs.Prelude.{◌&&◌}
 use Rattle.std.proofs.lemmas.Option.{slice_get-get_or}
 use Rattle.fin_tensor.specs.TensorFunction.{is_in_box}
 use Rattle.fin_tensor.specs.Building.{follows}
-use Rattle.fin_run.proofs.tests.can_update.Goals as goal
+use Rattle.fin_run.proofs.regularity.can_update.Goals as goal
 
 pub returns-then-is_in_box : goal.returns-then-is_in_box
 returns-then-is_in_box c = λ t.
