@@ -1,4 +1,0 @@
-pub mod States
-pub mod Storages
-pub mod Ends
-pub mod Chunks
