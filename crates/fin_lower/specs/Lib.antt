@@ -1,0 +1,4 @@
+pub mod Lowering
+pub mod Room
+pub mod Plans
+pub mod Lowered

@@ -1,0 +1,95 @@
+-- The code of statements. A variable has the local of its number; the other locals are free from `next` on, and a
+-- statement leaves each local before it as it was. Each turn of a loop and each statement pays its coordinate work.
+use Rattle.std.specs.Prelude.{ℕ, ◌+◌, List, [], ◌∷◌, ◌++◌, map, slice_index_or, ℤ, pos}
+use Rattle.fin_base.specs.declared.reduce.Reduce.{Reduce}
+use Rattle.fin_ast.specs.declared.header.Header.{Header}
+use Rattle.fin_ast.specs.declared.tree.Index.{Index}
+use Rattle.fin_ast.specs.declared.tree.Stmt.{Stmt, fold-Stmt}
+use Rattle.fin_ast.specs.declared.tree.Stmt.TheOpen.{Stmt-F}
+use Rattle.fin_ir.specs.declared.code.Code.{Code}
+use Rattle.fin_ir.specs.declared.code.Code.TheVariants.{Seq, Assign, When, ForLoop, Update, Declare, Freeze, Thaw, Charge}
+use Rattle.fin_ir.specs.declared.expression.IExpr.{IExpr}
+use Rattle.fin_ir.specs.declared.expression.IExpr.TheVariants.{Num, Local}
+use Rattle.fin_stage.specs.Stages.{work_of_declaration}
+use Rattle.fin_read.specs.Reads.{in_box}
+use Rattle.fin_read.specs.Counts.{count_code}
+use Rattle.fin_read.specs.Values.{Heads, Lowered, format_of, shape_of, index_code, value_code, prelude}
+
+-- the heads of tensors, and the range of each variable
+pub record Sides : Type 0 where
+  pub heads : Heads
+  pub ranges : List (ℕ × ℕ)
+
+abbrev pub range_at : Sides → ℕ → ℕ × ℕ
+range_at s var = slice_index_or s.ranges var (0, 0)
+
+abbrev pub charge_of : ℕ → Code
+charge_of n = Charge (Num (pos n))
+
+-- ---- statements on tensors
+
+abbrev pub declare_code : Heads → ℕ → Code
+declare_code h tensor = Seq (Declare tensor ∷ charge_of (work_of_declaration (format_of h tensor).levels (shape_of h tensor)) ∷ [])
+
+-- the number of values of a tensor that is a storage
+abbrev pub count_of : Heads → ℕ → IExpr
+count_of h tensor = count_code tensor (format_of h tensor).levels (shape_of h tensor)
+
+abbrev pub freeze_code : Heads → ℕ → Code
+freeze_code h tensor = Seq (Freeze tensor ∷ charge_of 1 ∷ Charge (count_of h tensor) ∷ [])
+
+abbrev pub thaw_code : Heads → ℕ → Code
+thaw_code h tensor = Seq (charge_of 1 ∷ Charge (count_of h tensor) ∷ Thaw tensor ∷ [])
+
+-- outside the box there is nothing to update
+abbrev pub update_code : Heads → ℕ → List Index → Reduce → Lowered → Code
+update_code h tensor at by v = Seq (prelude v ++ When (in_box (shape_of h tensor) (map index_code at)) (Update tensor (map index_code at) by v.value) ∷ charge_of 1 ∷ [])
+
+-- ---- statements with bodies
+
+abbrev pub cond_code : Lowered → List Code → Code
+cond_code v body = Seq (charge_of 1 ∷ prelude v ++ When v.value (Seq body) ∷ [])
+
+-- the local takes what the other has
+abbrev pub move_code : ℕ → ℕ → Code
+move_code to source = Assign to (Local source)
+
+-- what the variable had is in the local `next` meanwhile
+abbrev pub bind_code : ℕ → ℕ → Lowered → List Code → Code
+bind_code var next v body = Seq (charge_of 1 ∷ move_code next var ∷ prelude v ++ Assign var v.value ∷ Seq body ∷ move_code var next ∷ [])
+
+abbrev pub loop_over : ℕ × ℕ → ℕ → ℕ → Code → Code
+loop_over range var next turn = Seq (charge_of 1 ∷ move_code next var ∷ ForLoop var (Num (pos range.0)) (Num (pos range.1)) turn ∷ move_code var next ∷ [])
+
+abbrev pub loop_code : ℕ × ℕ → ℕ → ℕ → List Code → Code
+loop_code range var next body = loop_over range var next (Seq (charge_of 1 ∷ body))
+
+-- ---- all statements
+
+abbrev pub Coded : Type 0
+Coded = ℕ → Code
+
+-- the same first free local for each
+abbrev pub from : ℕ → List Coded → List Code
+from next codes = map (λ (c : Coded). c next) codes
+
+-- one node, with the code of each inner statement in its place, from the first free local on
+abbrev pub lower_step : Sides → Stmt-F Coded → ℕ → Code
+lower_step s (Stmt-F.Block body line last) next = Seq (from next body)
+lower_step s (Stmt-F.Loop var range par body line last) next = loop_code (range_at s var) var next (from (next + 1) body)
+lower_step s (Stmt-F.Cond test body line last) next = cond_code (value_code s.heads test next) (from next body)
+lower_step s (Stmt-F.Bind var value body line last) next = bind_code var next (value_code s.heads value (next + 1)) (from (next + 1) body)
+lower_step s (Stmt-F.Declare tensor value line) next = declare_code s.heads tensor
+lower_step s (Stmt-F.Freeze tensor line) next = freeze_code s.heads tensor
+lower_step s (Stmt-F.Thaw tensor line) next = thaw_code s.heads tensor
+lower_step s (Stmt-F.Update tensor at by value line) next = update_code s.heads tensor at by (value_code s.heads value next)
+
+abbrev pub code_of_stmt : Sides → Stmt → ℕ → Code
+code_of_stmt s = fold-Stmt Coded (lower_step s)
+
+abbrev pub code_of_all : Sides → ℕ → List Stmt → List Code
+code_of_all s next body = from next (map (code_of_stmt s) body)
+
+-- the sides of a program, by its lists
+abbrev pub sides_over : List Header → List (List ℕ) → List (ℕ × ℕ) → Sides
+sides_over headers shapes ranges = record { heads = record { headers = headers; shapes = shapes }; ranges = ranges }

@@ -1,0 +1,70 @@
+-- The code of expressions: first each access leaves its value in a local of its own, then there is an expression of loop
+-- code over these and the variables, each of which has the local of its number.
+use Rattle.std.specs.Prelude.{ℕ, ◌+◌, pos, List, [], ◌∷◌, ◌++◌, map, Option, Some, None, unwrap_or, option_map, slice_get, slice_index_or}
+use Rattle.fin_base.specs.declared.terms.Op.{Op}
+use Rattle.fin_base.specs.declared.terms.Op.TheVariants as op
+use Rattle.fin_tensor.specs.declared.format.Format.{Format}
+use Rattle.fin_tensor.specs.Levels.{AreSmall}
+use Rattle.fin_ast.specs.declared.header.Header.{Header}
+use Rattle.fin_ast.specs.declared.tree.Index.{Index}
+use Rattle.fin_ast.specs.declared.tree.Expr.{Expr, fold-Expr}
+use Rattle.fin_ast.specs.declared.tree.Expr.TheOpen.{Expr-F}
+use Rattle.fin_ir.specs.declared.code.Code.{Code}
+use Rattle.fin_ir.specs.declared.expression.IExpr.{IExpr}
+use Rattle.fin_ir.specs.declared.expression.IExpr.TheVariants.{Num, Local, Neg, Two}
+use Rattle.fin_stage.specs.Staged.{no_format}
+use Rattle.fin_read.specs.Steps.{Step, assign_of}
+use Rattle.fin_read.specs.Reads.{read_steps}
+
+-- the headers of a program, and the shape of each tensor
+pub record Heads : Type 0 where
+  pub headers : List Header
+  pub shapes : List (List ℕ)
+
+abbrev pub heads_of : List Header → List (List ℕ) → Heads
+heads_of headers shapes = record { headers = headers; shapes = shapes }
+
+abbrev pub format_of : Heads → ℕ → Format
+format_of h tensor = unwrap_or (option_map (λ (x : Header). x.format) (slice_get h.headers tensor)) no_format
+
+abbrev pub shape_of : Heads → ℕ → List ℕ
+shape_of h tensor = slice_index_or h.shapes tensor []
+
+-- no extent is over 2^40
+abbrev pub AreShapes : List (List ℕ) → Type 0
+AreShapes shapes = (tensor : ℕ) → AreSmall (slice_index_or shapes tensor [])
+
+-- the steps of the accesses, the expression over what they leave, and the first local that is free after them
+pub record Lowered : Type 0 where
+  pub steps : List Step
+  pub value : IExpr
+  pub next : ℕ
+
+abbrev pub var_code : Option ℕ → IExpr
+var_code None = Num (pos 0)
+var_code (Some var) = Local var
+
+abbrev pub index_code : Index → IExpr
+index_code i = Two op.Add (Two op.Add (var_code i.first) (var_code i.second)) (Num i.offset)
+
+abbrev pub two_after : Op → Lowered → Lowered → Lowered
+two_after o a b = record { steps = a.steps ++ b.steps; value = Two o a.value b.value; next = b.next }
+
+-- one node, with the code of each part in its place, from the first free local on
+abbrev pub lower_expr_step : Heads → Expr-F (ℕ → Lowered) → ℕ → Lowered
+lower_expr_step h (Expr-F.Num n) next = record { steps = []; value = Num n; next = next }
+lower_expr_step h (Expr-F.Var var line) next = record { steps = []; value = Local var; next = next }
+lower_expr_step h (Expr-F.Read tensor at line) next = record {
+  steps = read_steps tensor (format_of h tensor).levels (shape_of h tensor) (format_of h tensor).fill (map index_code at) next;
+  value = Local next;
+  next = next + 1;
+}
+lower_expr_step h (Expr-F.Neg inner) next = record { steps = (inner next).steps; value = Neg (inner next).value; next = (inner next).next }
+lower_expr_step h (Expr-F.Two o left right) next = two_after o (left next) (right (left next).next)
+
+abbrev pub value_code : Heads → Expr → ℕ → Lowered
+value_code h = fold-Expr (ℕ → Lowered) (lower_expr_step h)
+
+-- the code before the expression
+abbrev pub prelude : Lowered → List Code
+prelude v = map assign_of v.steps
