@@ -1,3 +1,4 @@
 pub mod Still
 pub mod Related
 pub mod Pinning
+pub mod Related
