@@ -5,3 +5,5 @@ pub mod Placed
 pub mod Valued
 pub mod Bodies
 pub mod Turns
+pub mod Saving
+pub mod Control
