@@ -88,6 +88,11 @@ module _ (ts : ℕ → Tensor) (tensor k : ℕ) (l : Level) (n count : ℕ) (p :
 
 -- ---- the kinds of levels
 
+both_held : (a b : Bool) (r : ℕ) → (if a then (if b then pos r else negsuc 0) else negsuc 0) ≡ held_as (if a && b then Some r else None)
+both_held true true r = refl
+both_held true false r = refl
+both_held false b r = refl
+
 module _ (ts : ℕ → Tensor) (tensor k n count at q c : ℕ) (x : IExpr) (ls : List ℤ) (long : at + 1 < length ls) (lt : q < count) (lx : c < n) (f : Holds at ls (pos q)) (g : IsAtValue ts at ls x (pos c)) where
   -- the locals after the step into the local behind
   abbrev behind : ℤ → List ℤ
@@ -111,3 +116,35 @@ module _ (ts : ℕ → Tensor) (tensor k n count at q c : ℕ) (x : IExpr) (ls :
       let product = two_of ts ls op.Mul (e.Local at) (e.Num (pos n)) (pos q) (pos n) (local_is ts ls at (pos q) f) (value_num ts ls (pos n)) ∙ mul_small q n (omega arith) in
       let all = two_of ts ls op.Add (e.Two op.Mul (e.Local at) (e.Num (pos n))) x (pos (q * n)) (pos c) product index_first ∙ add_small (q * n) c fits in
       one_step ts at ls _ (pos (q * n + c)) (omega (arith, long)) (placed ts ls at q _ f ∙ all)
+
+  -- a level that has numbers, and a place r of one
+  keys_found : (l : Level) (ptr idx : List ℕ) (r : ℕ) → LevelIs ts tensor k l n count (part.Keys ptr idx) → value_of (found tensor k at x) ts (behind (pos r)) ≡ held_as (if nat_lt r (slice_index ptr (q + 1)) && nat_eq (slice_index idx r) c then Some r else None)
+  keys_found l ptr idx r h =
+      let p = part.Keys ptr idx in
+      let ks = behind (pos r) in
+      let to = slice_index ptr (q + 1) in
+      let own = local_is ts ks (at + 1) (pos r) (here (pos r)) in
+      let number = cell_is ts tensor k l n count p h table.Idx (e.Local (at + 1)) ks (pos r) own in
+      let inner = choice_equal ts ks (e.Cell tensor k table.Idx (e.Local (at + 1))) x (e.Local (at + 1)) none in
+      let outer = choice_of ts ks (e.Local (at + 1)) (fibre_end tensor k at) (e.Pick (e.Two op.Eq (e.Cell tensor k table.Idx (e.Local (at + 1))) x) (e.Local (at + 1)) none) none (pos r) (pos to) own (end_is ts tensor k l n count p h at q ks lt (still (pos r))) in
+      let none_is = value_num ts ks (negsuc 0) in
+      outer ∙ rw (inner, number, index_is (pos r), own, none_is, eq_is (slice_index idx r) c) (both_held (nat_lt r to) (nat_eq (slice_index idx r) c) r)
+
+  keys_go : (l : Level) (ptr idx : List ℕ) → LevelIs ts tensor k l n count (part.Keys ptr idx) → IsPtr count ptr → IsRead ts (step_to (at + 1) (sought tensor k at x) ∷ step_to at (where_placed at (found tensor k at x)) ∷ []) at ls (held_as (key_in idx (slice_index ptr q) (slice_index ptr (q + 1)) c))
+  keys_go l ptr idx h is =
+      let from = slice_index ptr q in
+      let to = slice_index ptr (q + 1) in
+      let r = first_from idx c from (to - from) in
+      let search = search_is ts tensor k l n count (part.Keys ptr idx) h at q c x ls tt lt refl refl (is.rises q lt) f index_first in
+      two_steps ts at ls _ _ (held_as (key_in idx from to c)) long
+      (ap (λ (z : ℤ). value_of (where_placed at (found tensor k at x)) ts (behind z)) search ∙ placed ts (behind (pos r)) at q _ (still (pos r)) ∙ keys_found l ptr idx r h)
+
+  runs_go : (ptr stop : List ℕ) → LevelIs ts tensor k level.Runs n count (part.Runs ptr stop) → IsRead ts (level_steps tensor k level.Runs n x at) at ls (held_as (child_in n (part.Runs ptr stop) q c))
+  runs_go ptr stop h =
+      let from = slice_index ptr q in
+      let to = slice_index ptr (q + 1) in
+      let r = first_from stop (c + 1) from (to - from) in
+      let is : IsPtr count ptr = h.level.0 in
+      let search = search_is ts tensor k level.Runs n count (part.Runs ptr stop) h at q c x ls tt lt refl refl (is.rises q lt) f index_first in
+      two_steps ts at ls _ _ (pos r) long
+      (ap (λ (z : ℤ). value_of (where_placed at (e.Local (at + 1))) ts (behind z)) search ∙ placed ts (behind (pos r)) at q _ (still (pos r)) ∙ local_is ts (behind (pos r)) (at + 1) (pos r) (here (pos r)))
