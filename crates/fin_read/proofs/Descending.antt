@@ -148,3 +148,58 @@ module _ (ts : ℕ → Tensor) (tensor k n count at q c : ℕ) (x : IExpr) (ls :
       let search = search_is ts tensor k level.Runs n count (part.Runs ptr stop) h at q c x ls tt lt refl refl (is.rises q lt) f index_first in
       two_steps ts at ls _ _ (pos r) long
       (ap (λ (z : ℤ). value_of (where_placed at (e.Local (at + 1))) ts (behind z)) search ∙ placed ts (behind (pos r)) at q _ (still (pos r)) ∙ local_is ts (behind (pos r)) (at + 1) (pos r) (here (pos r)))
+
+  -- a coordinate before the block
+  band_before : (ptr start : List ℕ) (m : ℕ) → value_of (in_block tensor k at) ts (behind (negsuc m)) ≡ negsuc 0
+  band_before ptr start m = picked_none ts (behind (negsuc m)) (e.Local (at + 1)) none _ m (local_is ts (behind (negsuc m)) (at + 1) (negsuc m) (here (negsuc m))) ∙ value_num ts (behind (negsuc m)) (negsuc 0)
+
+  -- one that is d behind the block's first one
+  band_behind : (ptr start : List ℕ) (d : ℕ) → LevelIs ts tensor k level.Band n count (part.Band ptr start) → value_of (in_block tensor k at) ts (behind (pos d)) ≡ held_as (if nat_lt d (slice_index ptr (q + 1) - slice_index ptr q) then Some (slice_index ptr q + d) else None)
+  band_behind ptr start d h =
+      let p = part.Band ptr start in
+      let is : IsPtr count ptr = h.level.0 in
+      let ks = behind (pos d) in
+      let from = slice_index ptr q in
+      let to = slice_index ptr (q + 1) in
+      let order : from ≤ to = is.rises q lt in
+      let most : to ≤ 2 ^ 40 = is.small (q + 1) (omega (arith, lt, is.long)) in
+      let own = local_is ts ks (at + 1) (pos d) (here (pos d)) in
+      let begin = begin_is ts tensor k level.Band n count p h at q ks (still (pos d)) in
+      let size = two_of ts ks op.Sub (fibre_end tensor k at) (fibre_begin tensor k at) (pos to) (pos from) (end_is ts tensor k level.Band n count p h at q ks lt (still (pos d))) begin ∙ sub_small to from most order in
+      let sum = e.Two op.Add (fibre_begin tensor k at) (e.Local (at + 1)) in
+      let sum_is : d < to - from → value_of sum ts ks ≡ pos (from + d) = λ less. two_of ts ks op.Add (fibre_begin tensor k at) (e.Local (at + 1)) (pos from) (pos d) begin own ∙ add_small from d (omega (arith, less, most)) in
+      let inner = choice_of ts ks (e.Local (at + 1)) (e.Two op.Sub (fibre_end tensor k at) (fibre_begin tensor k at)) sum none (pos d) (pos (to - from)) own size in
+      let split : (if nat_lt d (to - from) then value_of sum ts ks else value_of none ts ks) ≡ held_as (if nat_lt d (to - from) then Some (from + d) else None) =
+          elim (nat_lt d (to - from)) as (λ b. nat_lt d (to - from) ≡ b → (if b then value_of sum ts ks else value_of none ts ks) ≡ held_as (if b then Some (from + d) else None)) [
+            | true ↦ (λ t. sum_is (grind (arith, nat_tests)))
+            | false ↦ (λ t. value_num ts ks (negsuc 0))
+          ] refl in
+      picked_placed ts ks (e.Local (at + 1)) none _ d own ∙ inner ∙ split
+
+  band_go : (ptr start : List ℕ) → LevelIs ts tensor k level.Band n count (part.Band ptr start) → IsRead ts (level_steps tensor k level.Band n x at) at ls (held_as (child_in n (part.Band ptr start) q c))
+  band_go ptr start h =
+      let p = part.Band ptr start in
+      let is : IsStart n count ptr start = h.level.1 in
+      let first = slice_index start q in
+      let least : first ≤ 2 ^ 40 = is.small q (omega (arith, lt, is.long)) in
+      let wide : c ≤ 2 ^ 40 = omega (arith, lx, h.small) in
+      let u = e.Two op.Sub x (e.Cell tensor k table.Start (e.Local at)) in
+      let start_is = cell_is ts tensor k level.Band n count p h table.Start (e.Local at) ls (pos q) (local_is ts ls at (pos q) f) in
+      let apart = two_of ts ls op.Sub x (e.Cell tensor k table.Start (e.Local at)) (pos c) (pos first) index_first start_is in
+      let goal : ℤ → Type 0 = λ z. value_of (where_placed at (in_block tensor k at)) ts (behind (value_of u ts ls)) ≡ z in
+      let at_value : (z : ℤ) → value_of u ts ls ≡ z → value_of (where_placed at (in_block tensor k at)) ts (behind (value_of u ts ls)) ≡ value_of (in_block tensor k at) ts (behind z) =
+          λ z same. ap (λ (y : ℤ). value_of (where_placed at (in_block tensor k at)) ts (behind y)) same ∙ placed ts (behind z) at q _ (still z) in
+      two_steps ts at ls u _ (held_as (child_in n p q c)) long
+      (elim (nat_lt c first) as (λ b. nat_lt c first ≡ b → goal (held_as (if b then None else (if nat_lt (c - first) (slice_index ptr (q + 1) - slice_index ptr q) then Some (slice_index ptr q + (c - first)) else None)))) [
+        | true ↦ (λ t. let less : c < first = grind (arith, nat_tests) in at_value (negsuc (first - c - 1)) (apart ∙ sub_below c first least less) ∙ band_before ptr start (first - c - 1))
+        | false ↦ (λ t. let more : first ≤ c = grind (arith, nat_tests) in at_value (pos (c - first)) (apart ∙ sub_small c first wide more) ∙ band_behind ptr start (c - first) h)
+      ] refl)
+
+  -- from a position to that below it, or to none
+  pub position_goes : (l : Level) (p : Part) → LevelIs ts tensor k l n count p → IsRead ts (level_steps tensor k l n x at) at ls (held_as (child_in n p q c))
+  position_goes level.Dense part.Dense h = dense_goes h
+  position_goes level.List (part.Keys ptr idx) h = keys_go level.List ptr idx h h.level.0
+  position_goes level.Dict (part.Keys ptr idx) h = keys_go level.Dict ptr idx h h.level.0
+  position_goes level.Runs (part.Runs ptr stop) h = runs_go ptr stop h
+  position_goes level.Band (part.Band ptr start) h = band_go ptr start h
+  position_goes l p h = absurd h.level
