@@ -1,3 +1,4 @@
 pub mod Stepping
 pub mod Placing
 pub mod Descending
+pub mod Reading
