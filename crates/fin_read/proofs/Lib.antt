@@ -1,4 +1,5 @@
 pub mod Stepping
 pub mod Placing
 pub mod Descending
+pub mod Remaining
 pub mod Reading

@@ -24,7 +24,8 @@ use Rattle.fin_read.specs.Sees.{Sees}
 use Rattle.fin_read.specs.Means.{AreAt, IsRead, ReadsMean}
 use Rattle.fin_read.proofs.Stepping.{agree_refl, agree_then, one_step, reads_after}
 use Rattle.fin_read.proofs.Placing.{choice, choice_of, off_truth, local_is, picked_placed, picked_none}
-use Rattle.fin_read.proofs.Descending.{held_as, Holds, IsAtValue, LevelIs, none_stays, position_goes}
+use Rattle.fin_read.proofs.Descending.{held_as, Holds, IsAtValue, none_stays, position_goes}
+use Rattle.fin_read.proofs.Remaining.{LevelsAre, level_of, levels_below}
 
 -- ---- the values of the indices
 
@@ -68,9 +69,24 @@ levels_none ts tensor fill at k (l ∷ rest) (n ∷ ns) (x ∷ xs) ls long f =
 
 -- ---- the descent
 
--- where the levels from k on stand in the whole
-pub drop_head : {A : Type 0} (k : ℕ) (xs : List A) (y : A) (ys : List A) (d : A) → drop k xs ≡ y ∷ ys → (get_or xs k d ≡ y) × (drop (suc k) xs ≡ ys) × (k < length xs)
-drop_head zero [] y ys d h = cc
-drop_head zero (x ∷ xs) y ys d h = (cc, cc, omega arith)
-drop_head (suc k) [] y ys d h = cc
-drop_head (suc k) (x ∷ xs) y ys d h = let r = drop_head k xs y ys d h in (r.0, r.1, omega (arith, r.2))
+module _ (ts : ℕ → Tensor) (tensor : ℕ) (fill : ℤ) (at : ℕ) where
+  descent : (k count : ℕ) (l : List Level) (ns : List ℕ) (ps : List Part) (val : List ℤ) (o : Option ℕ) (xs : List IExpr) (cs : List ℕ) (ls : List ℤ) → at + 1 < length ls → LevelsAre ts tensor k l ns ps val count → IfSome o (λ q. q < count) → IsTrue (is_in_box ns cs)
+      → AreAt ts at ls xs (map pos cs) → Holds at ls (held_as o) → IsRead ts (levels_steps tensor k l ns xs at ++ last_step tensor fill at ∷ []) at ls (below o (λ q. value_from ns ps val fill q cs) fill)
+  descent k count l ns ps val None xs cs ls long h lt box fixed f = levels_none ts tensor fill at k l ns xs ls long f
+  descent k count [] [] [] val (Some q) xs cs ls long h lt box fixed f =
+      let size : length (words_in (ts tensor)) ≡ count = ap length h.words ∙ h.valid.1 in
+      subst (λ (ws : List ℤ). IsRead ts (last_step tensor fill at ∷ []) at ls (slice_index_or ws q fill)) h.words (end_placed ts tensor fill at ls long q (omega (arith, lt, size)) f)
+  descent k count (l ∷ rest) (n ∷ ns) (p ∷ ps) val (Some q) (x ∷ xs) (c ∷ cs) ls long h lt box fixed f =
+      let own = level_steps tensor k l n x at in
+      let others = levels_steps tensor (k + 1) rest ns xs at ++ last_step tensor fill at ∷ [] in
+      let inside = and_parts (nat_lt c n) (is_in_box ns cs) box in
+      let less : c < n = ltb-true c n inside.0 in
+      let level = level_of ts tensor k l rest n ns p ps val count h in
+      let first = position_goes ts tensor k n count at q c x ls long lt less f (at_head ts at ls x xs (pos c) (map pos cs) fixed) l p level in
+      let fixed_after = at_after ts at ls (stepped ts own ls) xs (map pos cs) first.kept (at_tail ts at ls x xs (pos c) (map pos cs) fixed) in
+      let z = below (child_in n p q c) (λ r. value_from ns ps val fill r cs) fill in
+      let later = descent (k + 1) (positions n count p) rest ns ps val (child_in n p q c) xs cs (stepped ts own ls) (omega (arith, long, first.long)) (levels_below ts tensor k l rest n ns p ps val count h) (child_within l n count p q c level.level lt less) inside.1 fixed_after first.value in
+      subst (λ (steps : List Step). IsRead ts steps at ls z) (sym (append_assoc own (levels_steps tensor (k + 1) rest ns xs at) (last_step tensor fill at ∷ []))) (reads_after ts at ls own others (held_as (child_in n p q c)) z first later)
+  descent k count (l ∷ rest) (n ∷ ns) (p ∷ ps) val (Some q) [] (c ∷ cs) ls long h lt box fixed f = let e = fixed ls (agree_refl at ls) in cc
+  descent k count (l ∷ rest) (n ∷ ns) (p ∷ ps) val (Some q) xs [] ls long h lt box fixed f = cc
+  descent k count l ns ps val (Some q) xs cs ls long h lt box fixed f = absurd h.valid
