@@ -61,7 +61,7 @@ none_stays ts tensor k level.Band n x at ls lt h = two_steps ts at ls _ _ (negsu
 -- ---- what is read of the level
 
 module _ (ts : ℕ → Tensor) (tensor k : ℕ) (l : Level) (n count : ℕ) (p : Part) (h : LevelIs ts tensor k l n count p) where
-  cell_is : (t : Table) (x : IExpr) (ls : List ℤ) (z : ℤ) → value_of x ts ls ≡ z → value_of (e.Cell tensor k t x) ts ls ≡ number_at (table_in t p) z
+  pub cell_is : (t : Table) (x : IExpr) (ls : List ℤ) (z : ℤ) → value_of x ts ls ≡ z → value_of (e.Cell tensor k t x) ts ls ≡ number_at (table_in t p) z
   cell_is t x ls z f =
       value_cell ts ls tensor k t x ∙ ap (number_at (table_in t (part_at (parts_in (ts tensor)) k))) f
       ∙ ap (λ (q : Part). number_at (table_in t q) z) h.part_is

@@ -3,3 +3,4 @@ pub mod Placing
 pub mod Descending
 pub mod Remaining
 pub mod Reading
+pub mod Counting

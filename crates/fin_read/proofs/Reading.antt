@@ -1,5 +1,5 @@
 -- An access gives what the language gives it.
-use Rattle.std.proofs.Common.{◌≡◌, ◌≢◌, ℕ, zero, suc, ◌<◌, ◌≤◌, ◌+◌, ◌^◌, Bool, true, false, IsTrue, IfSome, List, [], ◌∷◌, ◌++◌, append_assoc, map, length, drop, refl, sym, ap, ◌∙◌, subst, ℤ, pos, negsuc, arith, Option, Some, None, is_some, get_or, add-one, ltb-true}
+use Rattle.std.proofs.Common.{◌≡◌, ◌≢◌, ℕ, zero, suc, ◌<◌, ◌≤◌, ◌+◌, ◌^◌, Bool, true, false, IsTrue, IfSome, List, [], ◌∷◌, ◌++◌, append_assoc, map, length, drop, refl, sym, ap, ◌∙◌, subst, ℤ, pos, negsuc, arith, Option, Some, None, option_map, ltb-true}
 use Rattle.std.specs.Prelude.{slice_index, slice_index_or, int_lt, nat_lt, if◌then◌else◌, ◌&&◌}
 use Rattle.std.proofs.lemmas.Bool.{and_parts}
 use Rattle.fin_base.specs.declared.terms.Op.TheVariants as op
@@ -90,3 +90,82 @@ module _ (ts : ℕ → Tensor) (tensor : ℕ) (fill : ℤ) (at : ℕ) where
   descent k count (l ∷ rest) (n ∷ ns) (p ∷ ps) val (Some q) [] (c ∷ cs) ls long h lt box fixed f = let e = fixed ls (agree_refl at ls) in cc
   descent k count (l ∷ rest) (n ∷ ns) (p ∷ ps) val (Some q) xs [] ls long h lt box fixed f = cc
   descent k count l ns ps val (Some q) xs cs ls long h lt box fixed f = absurd h.valid
+
+-- ---- the first step
+
+-- 1 where there are coordinates
+abbrev inside : Option (List ℕ) → ℤ
+inside None = pos 0
+inside (Some cs) = pos 1
+
+inside_first : (c : ℕ) (o : Option (List ℕ)) → inside o ≡ inside (with_first c o)
+inside_first c None = refl
+inside_first c (Some cs) = refl
+
+module _ (ts : ℕ → Tensor) (ls : List ℤ) where
+  extent_value : (n : ℕ) (ns : List ℕ) (x v : IExpr) (z : ℤ) (zs : List ℤ) → value_of x ts ls ≡ z → value_of v ts ls ≡ inside (coordinates ns zs) → value_of (in_extent n x v) ts ls ≡ inside (coordinates (n ∷ ns) (z ∷ zs))
+  extent_value n ns x v (negsuc c) zs g h = picked_none ts ls x (e.Num (pos 0)) _ c g ∙ value_num ts ls (pos 0)
+  extent_value n ns x v (pos c) zs g h =
+      let o = coordinates ns zs in
+      picked_placed ts ls x (e.Num (pos 0)) _ c g ∙ choice_of ts ls x (e.Num (pos n)) v (e.Num (pos 0)) (pos c) (pos n) g (value_num ts ls (pos n))
+      ∙ (elim (nat_lt c n) as (λ b. (if b then value_of v ts ls else value_of (e.Num (pos 0)) ts ls) ≡ inside (if b then with_first c o else None)) [
+        | true ↦ h ∙ inside_first c o
+        | false ↦ value_num ts ls (pos 0)
+      ])
+
+  box_value : (shape : List ℕ) (xs : List IExpr) → value_of (in_box shape xs) ts ls ≡ inside (coordinates shape (map (λ (x : IExpr). value_of x ts ls) xs))
+  box_value [] [] = value_num ts ls (pos 1)
+  box_value [] (x ∷ xs) = value_num ts ls (pos 0)
+  box_value (n ∷ ns) [] = value_num ts ls (pos 0)
+  box_value (n ∷ ns) (x ∷ xs) = extent_value n ns x (in_box ns xs) (value_of x ts ls) (map (λ (y : IExpr). value_of y ts ls) xs) refl (box_value ns xs)
+
+  -- the first position, where the indices lie in the box
+  first_value : (shape : List ℕ) (xs : List IExpr) (o : Option (List ℕ)) → coordinates shape (map (λ (x : IExpr). value_of x ts ls) xs) ≡ o → value_of (e.Pick (in_box shape xs) (e.Num (pos 0)) none) ts ls ≡ held_as (option_map (λ (cs : List ℕ). 0) o)
+  first_value shape xs None h = value_pick ts ls (in_box shape xs) (e.Num (pos 0)) none ∙ rw (box_value shape xs, h) (value_num ts ls (negsuc 0))
+  first_value shape xs (Some cs) h = value_pick ts ls (in_box shape xs) (e.Num (pos 0)) none ∙ rw (box_value shape xs, h) (value_num ts ls (pos 0))
+
+numbers_first : (ns : List ℕ) (zs : List ℤ) (c : ℕ) (cs : List ℕ) → with_first c (coordinates ns zs) ≡ Some cs → (ds : List ℕ) × (coordinates ns zs ≡ Some ds) × (cs ≡ c ∷ ds)
+numbers_first ns zs c cs h = elim (coordinates ns zs) as (λ o. with_first c o ≡ Some cs → (ds : List ℕ) × (o ≡ Some ds) × (cs ≡ c ∷ ds)) [
+  | None ↦ λ g. cc
+  | Some ds ↦ λ g. (ds, refl, cc)
+] h
+
+-- the indices are the coordinates that are found
+numbers_are : (ns : List ℕ) (zs : List ℤ) (cs : List ℕ) → coordinates ns zs ≡ Some cs → zs ≡ map pos cs
+numbers_are [] [] cs h = let same : ◌≡◌ {A = List ℕ} [] cs = cc in ap (map pos) same
+numbers_are [] (z ∷ zs) cs h = cc
+numbers_are (n ∷ ns) [] cs h = cc
+numbers_are (n ∷ ns) (negsuc c ∷ zs) cs h = cc
+numbers_are (n ∷ ns) (pos c ∷ zs) cs h =
+    elim (nat_lt c n) as (λ b. (if b then with_first c (coordinates ns zs) else None) ≡ Some cs → pos c ∷ zs ≡ map pos cs) [
+      | true ↦ λ g. let r = numbers_first ns zs c cs g in ap (λ (ys : List ℤ). pos c ∷ ys) (numbers_are ns zs r.0 r.1) ∙ ap (map pos) (sym r.2)
+      | false ↦ λ g. cc
+    ] h
+
+-- ---- all steps
+
+module _ (ts : ℕ → Tensor) (tensor : ℕ) (levels : List Level) (shape : List ℕ) (fill : ℤ) (f : TensorFunction) (xs : List IExpr) (zs : List ℤ) (at : ℕ) (ls : List ℤ) (sees : Sees ts tensor levels shape fill f) (fixed : AreAt ts at ls xs zs) (long : at + 1 < length ls) where
+  abbrev later : List Step
+  later = levels_steps tensor 0 levels shape xs at ++ last_step tensor fill at ∷ []
+
+  first_read : (o : Option (List ℕ)) → coordinates shape zs ≡ o → IsRead ts (first_step shape xs at ∷ []) at ls (held_as (option_map (λ (cs : List ℕ). 0) o))
+  first_read o h = one_step ts at ls _ _ (omega (arith, long)) (first_value ts ls shape xs o (ap (coordinates shape) (fixed ls (agree_refl at ls)) ∙ h))
+
+  whole : LevelsAre ts tensor 0 levels shape sees.storage.parts sees.storage.val 1
+  whole = record { extents = ap extents_in sees.is ∙ sees.shape_is; parts = ap parts_in sees.is; words = ap words_in sees.is; count_is = refl; valid = sees.valid }
+
+  read_by : (o : Option (List ℕ)) → coordinates shape zs ≡ o → IsRead ts (read_steps tensor levels shape fill xs at) at ls (value_in f o)
+  read_by None h =
+      let first = first_read None h in
+      let rest = levels_none ts tensor fill at 0 levels shape xs (stepped ts (first_step shape xs at ∷ []) ls) (omega (arith, long, first.long)) first.value in
+      subst (λ (z : ℤ). IsRead ts (read_steps tensor levels shape fill xs at) at ls z) (sym sees.f_fill) (reads_after ts at ls (first_step shape xs at ∷ []) later (negsuc 0) fill first rest)
+  read_by (Some cs) h =
+      let first = first_read (Some cs) h in
+      let box = box_of shape zs cs h in
+      let placed = subst (λ (ys : List ℤ). AreAt ts at ls xs ys) (numbers_are shape zs cs h) fixed in
+      let after = stepped ts (first_step shape xs at ∷ []) ls in
+      let rest = descent ts tensor fill at 0 1 levels shape sees.storage.parts sees.storage.val (Some 0) xs cs after (omega (arith, long, first.long)) whole (omega arith) box (at_after ts at ls after xs (map pos cs) first.kept placed) first.value in
+      subst (λ (z : ℤ). IsRead ts (read_steps tensor levels shape fill xs at) at ls z) (sym (sees.gives cs box)) (reads_after ts at ls (first_step shape xs at ∷ []) later (pos 0) (value_from shape sees.storage.parts sees.storage.val fill 0 cs) first rest)
+
+pub reads_mean : ReadsMean
+reads_mean ts tensor levels shape fill f xs zs at ls sees fixed long = read_by ts tensor levels shape fill f xs zs at ls sees fixed long (coordinates shape zs) refl
