@@ -1,5 +1,5 @@
 -- The code of a count gives the number of values.
-use Rattle.std.proofs.Common.{◌≡◌, ℕ, ◌≤◌, ◌+◌, ◌*◌, ◌^◌, List, [], ◌∷◌, length, refl, sym, ap, ◌∙◌, ℤ, pos}
+use Rattle.std.proofs.Common.{◌≡◌, ℕ, ◌+◌, List, [], ◌∷◌, length, refl, sym, ap, ◌∙◌, ℤ, pos}
 use Rattle.fin_base.specs.declared.terms.Op.TheVariants as op
 use Rattle.fin_tensor.specs.declared.format.Level.{Level}
 use Rattle.fin_tensor.specs.declared.format.Level.TheVariants as level
@@ -12,7 +12,7 @@ use Rattle.fin_ir.specs.declared.expression.IExpr.TheVariants as e
 use Rattle.fin_ir.specs.Machine.{Tensor}
 use Rattle.fin_ir.specs.Value.{extents_in, parts_in, words_in, value_of}
 use Rattle.fin_ir.proofs.Values.{value_num}
-use Rattle.fin_read.specs.Counts.{below_level, count_from, count_code}
+use Rattle.fin_read.specs.Counts.{below_level, count_from}
 use Rattle.fin_read.specs.Means.{CountsMean}
 use Rattle.fin_read.proofs.Placing.{mul_small, two_of}
 use Rattle.fin_read.proofs.Descending.{LevelIs, cell_is}

@@ -1,16 +1,14 @@
 -- The step from a position to that below it, in each kind of level.
-use Rattle.std.proofs.Common.{◌≡◌, ◌≢◌, ℕ, ◌<◌, ◌≤◌, ◌+◌, ◌-◌, ◌*◌, ◌^◌, Bool, true, false, List, [], ◌∷◌, length, refl, sym, ap, ◌∙◌, subst, ℤ, pos, negsuc, arith, Option, Some, None, get_or-set_same}
-use Rattle.std.specs.Prelude.{slice_index, slice_index_or, slice_set, int_lt, nat_lt, nat_eq, if◌then◌else◌, ◌&&◌}
-use Rattle.std.specs.Ordering.{int_eq}
+use Rattle.std.proofs.Common.{◌≡◌, ℕ, ◌<◌, ◌≤◌, ◌+◌, ◌-◌, ◌*◌, ◌^◌, Bool, true, false, List, [], ◌∷◌, length, refl, sym, ap, ◌∙◌, ℤ, pos, negsuc, arith, Option, Some, None, get_or-set_same}
+use Rattle.std.specs.Prelude.{slice_index, slice_index_or, slice_set, nat_lt, nat_eq, if◌then◌else◌, ◌&&◌}
 use Rattle.std.proofs.lemmas.Bool.Decides.{nat_tests}
 use Rattle.std.proofs.lemmas.Nat.{mul-add-lt}
 use Rattle.fin_base.specs.declared.terms.Op.TheVariants as op
-use Rattle.fin_base.specs.Words.{operate}
 use Rattle.fin_tensor.specs.declared.format.Level.{Level}
 use Rattle.fin_tensor.specs.declared.format.Level.TheVariants as level
 use Rattle.fin_tensor.specs.declared.part.Part.{Part}
 use Rattle.fin_tensor.specs.declared.part.Part.TheVariants as part
-use Rattle.fin_tensor.specs.Levels.{IsLevel, IsPtr, IsStart, LiesInFibre, HasNumbers, fibres, positions, first_from, fibre_from, fibre_to, numbers_of, wanted, key_in, block_in, child_in}
+use Rattle.fin_tensor.specs.Levels.{IsLevel, IsPtr, IsStart, LiesInFibre, HasNumbers, fibres, positions, first_from, fibre_from, fibre_to, numbers_of, wanted, key_in, child_in}
 use Rattle.fin_ir.specs.declared.expression.Table.{Table}
 use Rattle.fin_ir.specs.declared.expression.Table.TheVariants as table
 use Rattle.fin_ir.specs.declared.expression.IExpr.{IExpr}
@@ -20,11 +18,11 @@ use Rattle.fin_ir.specs.Machine.{Tensor}
 use Rattle.fin_ir.specs.Value.{extents_in, parts_in, value_of}
 use Rattle.fin_ir.proofs.Values.{value_cell, value_seek, value_num}
 use Rattle.fin_ir.proofs.Seeks.{sought_in}
-use Rattle.fin_read.specs.Steps.{Step, stepped, Agree}
+use Rattle.fin_read.specs.Steps.{Agree}
 use Rattle.fin_read.specs.Reads.{none, fibre_begin, fibre_end, where_placed, sought, found, in_block, step_to, level_steps}
 use Rattle.fin_read.specs.Means.{IsRead}
 use Rattle.fin_read.proofs.Stepping.{agree_set, one_step, two_steps}
-use Rattle.fin_read.proofs.Placing.{add_small, mul_small, sub_small, sub_below, lt_zero, lt_is, eq_is, choice_of, choice_equal, two_of, local_is, placed, not_placed, picked_placed, picked_none}
+use Rattle.fin_read.proofs.Placing.{add_small, mul_small, sub_small, sub_below, eq_is, choice_of, choice_equal, two_of, local_is, placed, not_placed, picked_placed, picked_none}
 
 -- a position, or none
 abbrev pub held_as : Option ℕ → ℤ
@@ -150,8 +148,8 @@ module _ (ts : ℕ → Tensor) (tensor k n count at q c : ℕ) (x : IExpr) (ls :
       (ap (λ (z : ℤ). value_of (where_placed at (e.Local (at + 1))) ts (behind z)) search ∙ placed ts (behind (pos r)) at q _ (still (pos r)) ∙ local_is ts (behind (pos r)) (at + 1) (pos r) (here (pos r)))
 
   -- a coordinate before the block
-  band_before : (ptr start : List ℕ) (m : ℕ) → value_of (in_block tensor k at) ts (behind (negsuc m)) ≡ negsuc 0
-  band_before ptr start m = picked_none ts (behind (negsuc m)) (e.Local (at + 1)) none _ m (local_is ts (behind (negsuc m)) (at + 1) (negsuc m) (here (negsuc m))) ∙ value_num ts (behind (negsuc m)) (negsuc 0)
+  band_before : (m : ℕ) → value_of (in_block tensor k at) ts (behind (negsuc m)) ≡ negsuc 0
+  band_before m = picked_none ts (behind (negsuc m)) (e.Local (at + 1)) none _ m (local_is ts (behind (negsuc m)) (at + 1) (negsuc m) (here (negsuc m))) ∙ value_num ts (behind (negsuc m)) (negsuc 0)
 
   -- one that is d behind the block's first one
   band_behind : (ptr start : List ℕ) (d : ℕ) → LevelIs ts tensor k level.Band n count (part.Band ptr start) → value_of (in_block tensor k at) ts (behind (pos d)) ≡ held_as (if nat_lt d (slice_index ptr (q + 1) - slice_index ptr q) then Some (slice_index ptr q + d) else None)
@@ -170,10 +168,10 @@ module _ (ts : ℕ → Tensor) (tensor k n count at q c : ℕ) (x : IExpr) (ls :
       let sum_is : d < to - from → value_of sum ts ks ≡ pos (from + d) = λ less. two_of ts ks op.Add (fibre_begin tensor k at) (e.Local (at + 1)) (pos from) (pos d) begin own ∙ add_small from d (omega (arith, less, most)) in
       let inner = choice_of ts ks (e.Local (at + 1)) (e.Two op.Sub (fibre_end tensor k at) (fibre_begin tensor k at)) sum none (pos d) (pos (to - from)) own size in
       let split : (if nat_lt d (to - from) then value_of sum ts ks else value_of none ts ks) ≡ held_as (if nat_lt d (to - from) then Some (from + d) else None) =
-          elim (nat_lt d (to - from)) as (λ b. nat_lt d (to - from) ≡ b → (if b then value_of sum ts ks else value_of none ts ks) ≡ held_as (if b then Some (from + d) else None)) [
-            | true ↦ (λ t. sum_is (grind (arith, nat_tests)))
-            | false ↦ (λ t. value_num ts ks (negsuc 0))
-          ] refl in
+      elim (nat_lt d (to - from)) as (λ b. nat_lt d (to - from) ≡ b → (if b then value_of sum ts ks else value_of none ts ks) ≡ held_as (if b then Some (from + d) else None)) [
+        | true ↦ (λ t. sum_is (grind (arith, nat_tests)))
+        | false ↦ (λ t. value_num ts ks (negsuc 0))
+      ] refl in
       picked_placed ts ks (e.Local (at + 1)) none _ d own ∙ inner ∙ split
 
   band_go : (ptr start : List ℕ) → LevelIs ts tensor k level.Band n count (part.Band ptr start) → IsRead ts (level_steps tensor k level.Band n x at) at ls (held_as (child_in n (part.Band ptr start) q c))
@@ -188,10 +186,10 @@ module _ (ts : ℕ → Tensor) (tensor k n count at q c : ℕ) (x : IExpr) (ls :
       let apart = two_of ts ls op.Sub x (e.Cell tensor k table.Start (e.Local at)) (pos c) (pos first) index_first start_is in
       let goal : ℤ → Type 0 = λ z. value_of (where_placed at (in_block tensor k at)) ts (behind (value_of u ts ls)) ≡ z in
       let at_value : (z : ℤ) → value_of u ts ls ≡ z → value_of (where_placed at (in_block tensor k at)) ts (behind (value_of u ts ls)) ≡ value_of (in_block tensor k at) ts (behind z) =
-          λ z same. ap (λ (y : ℤ). value_of (where_placed at (in_block tensor k at)) ts (behind y)) same ∙ placed ts (behind z) at q _ (still z) in
+      λ z same. ap (λ (y : ℤ). value_of (where_placed at (in_block tensor k at)) ts (behind y)) same ∙ placed ts (behind z) at q _ (still z) in
       two_steps ts at ls u _ (held_as (child_in n p q c)) long
       (elim (nat_lt c first) as (λ b. nat_lt c first ≡ b → goal (held_as (if b then None else (if nat_lt (c - first) (slice_index ptr (q + 1) - slice_index ptr q) then Some (slice_index ptr q + (c - first)) else None)))) [
-        | true ↦ (λ t. let less : c < first = grind (arith, nat_tests) in at_value (negsuc (first - c - 1)) (apart ∙ sub_below c first least less) ∙ band_before ptr start (first - c - 1))
+        | true ↦ (λ t. let less : c < first = grind (arith, nat_tests) in at_value (negsuc (first - c - 1)) (apart ∙ sub_below c first least less) ∙ band_before (first - c - 1))
         | false ↦ (λ t. let more : first ≤ c = grind (arith, nat_tests) in at_value (pos (c - first)) (apart ∙ sub_small c first wide more) ∙ band_behind ptr start (c - first) h)
       ] refl)
 

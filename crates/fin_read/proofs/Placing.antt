@@ -1,6 +1,6 @@
 -- The values of the small expressions of an access. All numbers of a storage are at most 2^40, so no word of these wraps.
-use Rattle.std.proofs.Common.{◌≡◌, ◌≢◌, ℕ, ◌<◌, ◌≤◌, ◌+◌, ◌-◌, ◌*◌, ◌^◌, Bool, true, false, List, [], ◌∷◌, refl, sym, ap, ◌∙◌, ℤ, pos, negsuc, ◌+ℤ◌, ◌-ℤ◌, ◌*ℤ◌, w64, arith, Option, Some, None}
-use Rattle.std.specs.Prelude.{slice_index, slice_index_or, int_lt, nat_lt, nat_eq, if◌then◌else◌, ◌&&◌}
+use Rattle.std.proofs.Common.{◌≡◌, ◌≢◌, ℕ, ◌<◌, ◌≤◌, ◌+◌, ◌-◌, ◌*◌, ◌^◌, Bool, true, false, List, refl, ap, ◌∙◌, ℤ, pos, negsuc, ◌-ℤ◌, w64, arith}
+use Rattle.std.specs.Prelude.{slice_index_or, int_lt, nat_eq, if◌then◌else◌}
 use Rattle.std.specs.Ordering.{int_eq}
 use Rattle.std.proofs.lemmas.Bool.Decides.{nat_tests}
 use Rattle.std.proofs.lemmas.Int.{ints, int_wrap_fits}
@@ -44,9 +44,6 @@ sub_below a b h k = sub_is a b (omega arith) h ∙ (let e : pos a -ℤ pos b ≡
 pub off_truth : (b : Bool) {A : Type 0} (x y : A) → (if is_off (truth b) then y else x) ≡ (if b then x else y)
 off_truth true x y = refl
 off_truth false x y = refl
-
-pub lt_is : (a b : ℕ) → int_lt (pos a) (pos b) ≡ nat_lt a b
-lt_is a b = refl
 
 pub eq_is : (a b : ℕ) → int_eq (pos a) (pos b) ≡ nat_eq a b
 eq_is a b = elim (nat_eq a b) as (λ t. nat_eq a b ≡ t → int_eq (pos a) (pos b) ≡ t) [

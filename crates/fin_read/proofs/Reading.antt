@@ -1,29 +1,26 @@
 -- An access gives what the language gives it.
-use Rattle.std.proofs.Common.{◌≡◌, ◌≢◌, ℕ, zero, suc, ◌<◌, ◌≤◌, ◌+◌, ◌^◌, Bool, true, false, IsTrue, IfSome, List, [], ◌∷◌, ◌++◌, append_assoc, map, length, drop, refl, sym, ap, ◌∙◌, subst, ℤ, pos, negsuc, arith, Option, Some, None, option_map, ltb-true}
-use Rattle.std.specs.Prelude.{slice_index, slice_index_or, int_lt, nat_lt, if◌then◌else◌, ◌&&◌}
+use Rattle.std.proofs.Common.{◌≡◌, ℕ, zero, suc, ◌<◌, ◌+◌, true, false, IsTrue, IfSome, List, [], ◌∷◌, ◌++◌, append_assoc, map, length, refl, sym, ap, ◌∙◌, subst, ℤ, pos, negsuc, arith, Option, Some, None, option_map, ltb-true}
+use Rattle.std.specs.Prelude.{slice_index_or, nat_lt, if◌then◌else◌}
 use Rattle.std.proofs.lemmas.Bool.{and_parts}
-use Rattle.fin_base.specs.declared.terms.Op.TheVariants as op
-use Rattle.fin_base.specs.Words.{truth}
 use Rattle.fin_tensor.specs.declared.format.Level.{Level}
 use Rattle.fin_tensor.specs.declared.part.Part.{Part}
-use Rattle.fin_tensor.specs.declared.part.Part.TheVariants as part
-use Rattle.fin_tensor.specs.TensorFunction.{TensorFunction, value_at, is_in_box}
-use Rattle.fin_tensor.specs.Levels.{IsStored, fibres, positions, child_in, below, value_from}
-use Rattle.fin_tensor.proofs.Walk.{stored_small, child_within, fibres_more}
+use Rattle.fin_tensor.specs.TensorFunction.{TensorFunction, is_in_box}
+use Rattle.fin_tensor.specs.Levels.{positions, child_in, below, value_from}
+use Rattle.fin_tensor.proofs.Walk.{child_within}
 use Rattle.fin_ast.specs.Value.{coordinates, with_first, value_in}
 use Rattle.fin_ast.proofs.InBox.{in_box as box_of}
 use Rattle.fin_ir.specs.declared.expression.IExpr.{IExpr}
 use Rattle.fin_ir.specs.declared.expression.IExpr.TheVariants as e
-use Rattle.fin_ir.specs.Loads.{part_at, word_at}
-use Rattle.fin_ir.specs.Machine.{Tensor, stored}
+use Rattle.fin_ir.specs.Loads.{word_at}
+use Rattle.fin_ir.specs.Machine.{Tensor}
 use Rattle.fin_ir.specs.Value.{extents_in, parts_in, words_in, value_of}
 use Rattle.fin_ir.proofs.Values.{value_num, value_pick, value_val}
 use Rattle.fin_read.specs.Steps.{Step, stepped, Agree}
-use Rattle.fin_read.specs.Reads.{none, in_extent, in_box, step_to, level_steps, levels_steps, first_step, last_step, read_steps}
+use Rattle.fin_read.specs.Reads.{none, in_extent, in_box, level_steps, levels_steps, first_step, last_step, read_steps}
 use Rattle.fin_read.specs.Sees.{Sees}
 use Rattle.fin_read.specs.Means.{AreAt, IsRead, ReadsMean}
 use Rattle.fin_read.proofs.Stepping.{agree_refl, agree_then, one_step, reads_after}
-use Rattle.fin_read.proofs.Placing.{choice, choice_of, off_truth, local_is, picked_placed, picked_none}
+use Rattle.fin_read.proofs.Placing.{choice_of, local_is, picked_placed, picked_none}
 use Rattle.fin_read.proofs.Descending.{held_as, Holds, IsAtValue, none_stays, position_goes}
 use Rattle.fin_read.proofs.Remaining.{LevelsAre, level_of, levels_below}
 

@@ -1,5 +1,5 @@
 -- The levels of a storage from one on, as they stand in the whole.
-use Rattle.std.proofs.Common.{◌≡◌, ℕ, zero, suc, ◌<◌, ◌≤◌, ◌+◌, ◌^◌, List, [], ◌∷◌, length, drop, refl, sym, ap, ◌∙◌, subst, ℤ, arith, get_or, add-one}
+use Rattle.std.proofs.Common.{◌≡◌, ℕ, zero, suc, ◌<◌, ◌+◌, List, [], ◌∷◌, length, drop, refl, ◌∙◌, subst, ℤ, arith, get_or}
 use Rattle.std.specs.Prelude.{slice_index}
 use Rattle.fin_tensor.specs.declared.format.Level.{Level}
 use Rattle.fin_tensor.specs.declared.part.Part.{Part}
