@@ -5,3 +5,7 @@
 //! code over such locals and those of the variables. Where code sees each tensor that can be read as a storage of its
 //! function, the code has the value that the language gives the expression.
 #![tactic(auto)]
+
+mod laws;
+
+pub use laws::{counts_mean, reads_mean};
