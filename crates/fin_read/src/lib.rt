@@ -5,3 +5,13 @@
 //! code over such locals and those of the variables. Where code sees each tensor that can be read as a storage of its
 //! function, the code has the value that the language gives the expression.
 #![tactic(auto)]
+
+mod counts;
+mod parts;
+mod reads;
+mod values;
+
+pub use counts::count_expr;
+pub use parts::push;
+pub use reads::{in_box, in_extent};
+pub use values::{Heads, Value, format_of, index_codes, push_value, shape_of};
