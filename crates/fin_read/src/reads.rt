@@ -77,6 +77,7 @@ fn push_last(
 }
 
 // Appends the steps through these levels.
+#[tactic(auto, using(crate::proofs::Fronts::small_part, crate::proofs::Fronts::no_level, crate::proofs::Fronts::no_extent, crate::proofs::Fronts::no_index))]
 fn push_levels(
     alloc: Global,
     into: &mut Items<Code>,
@@ -285,6 +286,7 @@ fn fibre_end(alloc: Global, place: Place) -> Result<IExpr, AllocError>
 }
 
 /// 1 where the indices lie in the box, else 0.
+#[tactic(auto, using(crate::proofs::Fronts::small_part))]
 pub fn in_box(alloc: Global, shape: &[u64], at: &[IExpr]) -> Result<IExpr, AllocError>
     requires small { AreSmall shape.now }
     ensures { IfOk result (λ e. e ≡ spec.in_box shape.now at.now) }
