@@ -4,3 +4,4 @@ pub mod Descending
 pub mod Remaining
 pub mod Reading
 pub mod Counting
+pub mod Fronts

@@ -6,6 +6,14 @@
 //! function, the code has the value that the language gives the expression.
 #![tactic(auto)]
 
+mod counts;
 mod laws;
+mod parts;
+mod reads;
+mod values;
 
+pub use counts::count_expr;
 pub use laws::{counts_mean, reads_mean};
+pub use parts::push;
+pub use reads::{in_box, in_extent};
+pub use values::{Heads, Value, format_of, index_codes, push_value, shape_of};
