@@ -7,3 +7,4 @@ pub mod Bodies
 pub mod Turns
 pub mod Saving
 pub mod Control
+pub mod Naming
