@@ -1,3 +1,4 @@
 pub mod Related
 pub mod Headed
 pub mod Given
+pub mod Seen
