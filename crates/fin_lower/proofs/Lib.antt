@@ -2,3 +2,4 @@ pub mod Related
 pub mod Headed
 pub mod Given
 pub mod Seen
+pub mod Beginning
