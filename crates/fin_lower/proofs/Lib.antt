@@ -3,3 +3,4 @@ pub mod Headed
 pub mod Given
 pub mod Seen
 pub mod Beginning
+pub mod Changed
