@@ -4,3 +4,4 @@ pub mod Given
 pub mod Seen
 pub mod Beginning
 pub mod Changed
+pub mod Putting

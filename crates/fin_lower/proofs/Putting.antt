@@ -1,0 +1,114 @@
+-- Declarations, freezes and thaws.
+use Rattle.std.proofs.Common.{◌≡◌, ◌<◌, ◌≤◌, ◌+◌, ◌^◌, ℕ, Bool, true, false, ◌&&◌, List, [], ◌∷◌, map, length, Option, Some, None, if◌then◌else◌, refl, sym, ap, ◌∙◌, subst, inl, inr, ℤ, pos, arith}
+use Rattle.std.specs.Prelude.{slice_get, slice_index_or, nat_lt, nat_le, nat_eq, not}
+use Rattle.std.proofs.lemmas.Bool.Decides.{nat_tests}
+use Rattle.std.proofs.lemmas.List.{length-map}
+use Rattle.fin_tensor.specs.declared.format.Format.{Format}
+use Rattle.fin_tensor.specs.declared.format.Level.{Level}
+use Rattle.fin_tensor.specs.declared.format.Wrap.TheVariants.{Bare}
+use Rattle.fin_tensor.specs.declared.storage.Storage.{Storage}
+use Rattle.fin_tensor.specs.TensorFunction.{TensorFunction, value_at}
+use Rattle.fin_tensor.specs.Building.{Building, started, CanBuild}
+use Rattle.fin_tensor.specs.Canon.{Slice, kept, next, undecorated, canon_values, is_allowed}
+use Rattle.fin_tensor.specs.Levels.{AreSmall, IsStored}
+use Rattle.fin_tensor.specs.Placement.{RunsStandLast}
+use Rattle.fin_tensor.proofs.Cells.{filled_has_cells}
+use Rattle.fin_canon.proofs.Listed.{listed_is}
+use Rattle.fin_ast.specs.declared.header.Header.{Header}
+use Rattle.fin_ast.specs.declared.checked.Checked.{Checked}
+use Rattle.fin_ast.specs.Accepted.{FitProgram}
+use Rattle.fin_ast.specs.Dense.{Setting, setting_of, shape_at}
+use Rattle.fin_ast.specs.Shaped.{FitHeaders}
+use Rattle.fin_ir.specs.declared.code.Code.{Code}
+use Rattle.fin_ir.specs.declared.code.Code.TheVariants.{Seq, Declare, Freeze, Thaw, Charge}
+use Rattle.fin_ir.specs.CanBuild.{can_build}
+use Rattle.fin_ir.specs.Frozen.{canon, are_few, is_large, stood_for}
+use Rattle.fin_ir.specs.Machine.{Machine, Tensor, building, stored, held, seen, refused, can_declare, cut_off, frozen_at, thawed, thawed_at}
+use Rattle.fin_ir.specs.Machine as machine
+use Rattle.fin_ir.specs.Value.{value_in}
+use Rattle.fin_ir.specs.Meaning.{meaning}
+use Rattle.fin_ir.proofs.Builds.{of_builds}
+use Rattle.fin_ir.proofs.Codes.{meaning_seq, meaning_declare, meaning_freeze, meaning_thaw}
+use Rattle.fin_stage.specs.Stages.{Stage, Absent, Built, Frozen, stage_at, work_of_declaration, work_of_storing}
+use Rattle.fin_stage.specs.Staged.{Run, worked, with_stage, regular, is_made, format_at, declare, freeze_at, freeze, thaw_at, thaw}
+use Rattle.fin_stage.specs.Fitting.{FunctionFits, StageFits}
+use Rattle.fin_stage.proofs.Alive.{both}
+use Rattle.fin_stage.proofs.Fits.{same_fill}
+use Rattle.fin_read.specs.Means.{CountsMean}
+use Rattle.fin_read.specs.Values.{format_of, shape_of}
+use Rattle.fin_lower.specs.Lowering.{charge_of, count_of, declare_code, freeze_code, thaw_code}
+use Rattle.fin_lower.specs.Plans.{kind_number, heads_in, layout_of}
+use Rattle.fin_lower.specs.Lowered.{canon_of}
+use Rattle.fin_lower.proofs.Related.{unchanged, Stand, Live, Over, Related}
+use Rattle.fin_lower.proofs.Headed.{formats_are, kind_is, input_number, shapes_long, builds_there}
+use Rattle.fin_lower.proofs.Given.{made_is_other}
+use Rattle.fin_lower.proofs.Seen.{canon_valid, seen_held, stage_there}
+use Rattle.fin_lower.proofs.Changed.{paid, charge_pays, number_pays, cut_pays, worked_live, changed_to, changed_live, built_is_made, made_by}
+
+-- the two tests of sizes are one
+allowed_is_few : (ls : List Level) (fill : ℤ) (ns : List ℕ) (fs : List Slice) → is_allowed ls fill ns fs ≡ are_few ls fill ns fs
+allowed_is_few [] fill ns fs = refl
+allowed_is_few (l ∷ ls) fill [] fs = refl
+allowed_is_few (l ∷ ls) fill (n ∷ ns) fs = ap (λ (b : Bool). nat_le (length fs) (2 ^ 40) && b) (allowed_is_few ls fill ns (next (kept l fill n ns) fs))
+
+few_or_not : (b : Bool) → not b ≡ false → b ≡ true
+few_or_not true e = refl
+few_or_not false e = cc
+
+few_not : (b : Bool) → not b ≡ true → b ≡ false
+few_not true e = cc
+few_not false e = refl
+
+pub storing_small : (b : Building) → is_large b ≡ false → work_of_storing b.format b.function ≡ 1 + length (canon b).val
+storing_small b e =
+    let few = few_or_not (are_few b.format.levels b.function.fill b.function.shape (value_at b.function ∷ [])) e in
+    ap (λ (t : Bool). if t then 1 + length (canon b).val else 2 ^ 40 + 1) (allowed_is_few b.format.levels b.function.fill b.function.shape (value_at b.function ∷ []) ∙ few)
+
+pub storing_large : (b : Building) → is_large b ≡ true → work_of_storing b.format b.function ≡ 2 ^ 40 + 1
+storing_large b e =
+    let few = few_not (are_few b.format.levels b.function.fill b.function.shape (value_at b.function ∷ [])) e in
+    ap (λ (t : Bool). if t then 1 + length (canon b).val else 2 ^ 40 + 1) (allowed_is_few b.format.levels b.function.fill b.function.shape (value_at b.function ∷ []) ∙ few)
+
+below : (a b : ℕ) → a < b → nat_lt a b ≡ true
+below a b h = grind (arith, nat_tests)
+
+module _ (c : Checked) (inputs : List Storage) (fits : FitHeaders c.program.headers c.dims) (given_fit : FitProgram c inputs) where
+  abbrev w : Setting
+  w = setting_of c inputs
+
+  -- ---- declarations
+
+  made_in_layout : (t : ℕ) → t < length c.program.headers → is_made w t ≡ true → machine.is_made (layout_of c) t ≡ true
+  made_in_layout t lt made =
+      let q = made_is_other c inputs fits given_fit t lt made in
+      ap (λ (k : ℕ). not (nat_eq k 0)) (kind_is c.program.headers t q.0 q.1) ∙ ap not (input_number q.0.kind ∙ q.2)
+
+  pub declares : (t : ℕ) → t < length c.program.headers → is_made w t ≡ true → can_declare (layout_of c) t ≡ true
+  declares t lt made =
+      let can : CanBuild (format_at w t) (shape_at w t) = builds_there c.program.headers c.dims.shapes fits.shapes t lt in
+      let builds : can_build (machine.format_at (layout_of c) t) (machine.shape_at (layout_of c) t) ≡ true = ap (λ (f : Format). can_build f (shape_at w t)) (formats_are c.program.headers t) ∙ of_builds (format_at w t) (shape_at w t) can in
+      let formats : nat_lt t (length (layout_of c).formats) ≡ true = below _ _ (omega (arith, lt, length-map c.program.headers (λ (x : Header). x.format))) in
+      let shapes : nat_lt t (length (layout_of c).shapes) ≡ true = below _ _ (omega (arith, lt, shapes_long c.program.headers c.dims.shapes fits.shapes)) in
+      let is_made = made_in_layout t lt made in
+      rw (is_made, formats, shapes, builds) refl
+
+  started_fits : (t : ℕ) → StageFits w t (Built (started (format_at w t) (shape_at w t)))
+  started_fits t = (refl, record { shape = refl; fill = same_fill w (slice_get c.program.headers t); cells = filled_has_cells (shape_at w t) (format_at w t).fill })
+
+  pub declare_goes : (pins : List ℤ) (r : Run) (m : Machine) → Live c inputs pins r m → (t : ℕ) → t < length c.program.headers → regular (declare w t r) ≡ true → Related c inputs pins (declare w t r) (meaning (layout_of c) (declare_code (heads_in c) t) m)
+  declare_goes pins r m live t lt reg =
+      let work : ℕ = work_of_declaration (format_at w t).levels (shape_at w t) in
+      let b : Building = started (format_at w t) (shape_at w t) in
+      let done : Run = worked work (with_stage t (Built b) r) in
+      let made : is_made w t ≡ true = made_by (is_made w t) done r reg in
+      let own : Building = started (machine.format_at (layout_of c) t) (shape_at w t) in
+      let n : Machine = changed_to t (building own) m in
+      let declared : meaning (layout_of c) (Declare t) m ≡ n =
+          meaning_declare (layout_of c) t m ∙ ap (λ (x : Bool). if x then m else (if can_declare (layout_of c) t then n else refused m)) live.cut
+          ∙ ap (λ (x : Bool). if x then n else refused m) (declares t lt made) in
+      let ends : meaning (layout_of c) (declare_code (heads_in c) t) m ≡ paid work n =
+          meaning_seq (layout_of c) (Declare t ∷ charge_of work ∷ []) m ∙ ap (meaning (layout_of c) (charge_of work)) declared ∙ number_pays (layout_of c) work n live.cut in
+      let same : building own ≡ building b = ap (λ (f : Format). building (started f (shape_at w t))) (formats_are c.program.headers t) in
+      let goes : Live c inputs pins done (paid work n) = worked_live c inputs pins (with_stage t (Built b) r) n (changed_live c inputs pins r m live t (Built b) (building own) lt made same (started_fits t)) work in
+      let run : declare w t r ≡ done = ap (λ (x : Bool). if x then done else Rattle.fin_stage.specs.Staged.unalive r) made in
+      inl (subst (λ (x : Run). Live c inputs pins x (meaning (layout_of c) (declare_code (heads_in c) t) m)) (sym run) (subst (Live c inputs pins done) (sym ends) goes))
