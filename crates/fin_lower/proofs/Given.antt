@@ -126,6 +126,6 @@ module _ (c : Checked) (inputs : List Storage) (fits : FitHeaders c.program.head
   made_is_other t lt e =
       let q = header_there c.program.headers t lt in
       (q.0, q.1, by_begun q.0 (is_input q.0.kind) (begun_holds t q.0 q.1)) where
-    by_begun : (x : Header) (b : Bool) → IsBegun b x (slice_index_or c.dims.shapes t []) (made_at (setting_of c inputs).given t) (held (begun c inputs).tensors t) → b ≡ false
-    by_begun x true i = let n = ap is_none i.function in cc
-    by_begun x false i = refl
+        by_begun : (x : Header) (b : Bool) → IsBegun b x (slice_index_or c.dims.shapes t []) (made_at (setting_of c inputs).given t) (held (begun c inputs).tensors t) → b ≡ false
+        by_begun x true i = let n = ap is_none i.function in cc
+        by_begun x false i = refl

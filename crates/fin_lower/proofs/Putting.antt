@@ -2,7 +2,7 @@
 use Rattle.std.proofs.Common.{◌≡◌, ◌<◌, ◌≤◌, ◌+◌, ◌^◌, ℕ, Bool, true, false, ◌&&◌, List, [], ◌∷◌, map, length, Option, Some, None, if◌then◌else◌, refl, sym, ap, ◌∙◌, subst, inl, inr, ℤ, pos, arith}
 use Rattle.std.specs.Prelude.{slice_get, slice_index_or, nat_lt, nat_le, nat_eq, not}
 use Rattle.std.proofs.lemmas.Bool.Decides.{nat_tests}
-use Rattle.std.proofs.lemmas.List.{length-map}
+use Rattle.std.proofs.lemmas.List.{length-map, get_or-set_same}
 use Rattle.fin_tensor.specs.declared.format.Format.{Format}
 use Rattle.fin_tensor.specs.declared.format.Level.{Level}
 use Rattle.fin_tensor.specs.declared.format.Wrap.TheVariants.{Bare}
@@ -23,17 +23,19 @@ use Rattle.fin_ir.specs.declared.code.Code.{Code}
 use Rattle.fin_ir.specs.declared.code.Code.TheVariants.{Seq, Declare, Freeze, Thaw, Charge}
 use Rattle.fin_ir.specs.CanBuild.{can_build}
 use Rattle.fin_ir.specs.Frozen.{canon, are_few, is_large, stood_for}
-use Rattle.fin_ir.specs.Machine.{Machine, Tensor, building, stored, held, seen, refused, can_declare, cut_off, frozen_at, thawed, thawed_at}
+use Rattle.fin_ir.specs.Machine.{Machine, Tensor, nothing, building, stored, held, seen, refused, can_declare, cut_off, frozen_at, thawed, thawed_at}
 use Rattle.fin_ir.specs.Machine as machine
-use Rattle.fin_ir.specs.Value.{value_in}
+use Rattle.fin_ir.specs.declared.expression.IExpr.TheVariants.{Num}
+use Rattle.fin_ir.specs.Value.{value_of, value_in}
 use Rattle.fin_ir.specs.Meaning.{meaning}
 use Rattle.fin_ir.proofs.Builds.{of_builds}
 use Rattle.fin_ir.proofs.Codes.{meaning_seq, meaning_declare, meaning_freeze, meaning_thaw}
 use Rattle.fin_stage.specs.Stages.{Stage, Absent, Built, Frozen, stage_at, work_of_declaration, work_of_storing}
-use Rattle.fin_stage.specs.Staged.{Run, worked, with_stage, regular, is_made, format_at, declare, freeze_at, freeze, thaw_at, thaw}
+use Rattle.fin_stage.specs.Staged.{Run, worked, with_stage, unalive, regular, is_made, format_at, declare, freeze_at, freeze, thaw_at, thaw}
 use Rattle.fin_stage.specs.Fitting.{FunctionFits, StageFits}
 use Rattle.fin_stage.proofs.Alive.{both}
 use Rattle.fin_stage.proofs.Fits.{same_fill}
+use Rattle.fin_read.specs.Counts.{count_code}
 use Rattle.fin_read.specs.Means.{CountsMean}
 use Rattle.fin_read.specs.Values.{format_of, shape_of}
 use Rattle.fin_lower.specs.Lowering.{charge_of, count_of, declare_code, freeze_code, thaw_code}
@@ -68,6 +70,9 @@ pub storing_large : (b : Building) → is_large b ≡ true → work_of_storing b
 storing_large b e =
     let few = few_not (are_few b.format.levels b.function.fill b.function.shape (value_at b.function ∷ [])) e in
     ap (λ (t : Bool). if t then 1 + length (canon b).val else 2 ^ 40 + 1) (allowed_is_few b.format.levels b.function.fill b.function.shape (value_at b.function ∷ []) ∙ few)
+
+paid_twice : (a b : ℕ) (m : Machine) → paid b (paid a m) ≡ paid (a + b) m
+paid_twice a b m = let e : m.charges + a + b ≡ m.charges + (a + b) = omega arith in ap (λ (k : ℕ). record m { charges = k }) e
 
 below : (a b : ℕ) → a < b → nat_lt a b ≡ true
 below a b h = grind (arith, nat_tests)
@@ -104,11 +109,89 @@ module _ (c : Checked) (inputs : List Storage) (fits : FitHeaders c.program.head
       let own : Building = started (machine.format_at (layout_of c) t) (shape_at w t) in
       let n : Machine = changed_to t (building own) m in
       let declared : meaning (layout_of c) (Declare t) m ≡ n =
-          meaning_declare (layout_of c) t m ∙ ap (λ (x : Bool). if x then m else (if can_declare (layout_of c) t then n else refused m)) live.cut
-          ∙ ap (λ (x : Bool). if x then n else refused m) (declares t lt made) in
+      meaning_declare (layout_of c) t m ∙ ap (λ (x : Bool). if x then m else (if can_declare (layout_of c) t then n else refused m)) live.cut
+      ∙ ap (λ (x : Bool). if x then n else refused m) (declares t lt made) in
       let ends : meaning (layout_of c) (declare_code (heads_in c) t) m ≡ paid work n =
-          meaning_seq (layout_of c) (Declare t ∷ charge_of work ∷ []) m ∙ ap (meaning (layout_of c) (charge_of work)) declared ∙ number_pays (layout_of c) work n live.cut in
+      meaning_seq (layout_of c) (Declare t ∷ charge_of work ∷ []) m ∙ ap (meaning (layout_of c) (charge_of work)) declared ∙ number_pays (layout_of c) work n live.cut in
       let same : building own ≡ building b = ap (λ (f : Format). building (started f (shape_at w t))) (formats_are c.program.headers t) in
       let goes : Live c inputs pins done (paid work n) = worked_live c inputs pins (with_stage t (Built b) r) n (changed_live c inputs pins r m live t (Built b) (building own) lt made same (started_fits t)) work in
-      let run : declare w t r ≡ done = ap (λ (x : Bool). if x then done else Rattle.fin_stage.specs.Staged.unalive r) made in
+      let run : declare w t r ≡ done = ap (λ (x : Bool). if x then done else unalive r) made in
       inl (subst (λ (x : Run). Live c inputs pins x (meaning (layout_of c) (declare_code (heads_in c) t) m)) (sym run) (subst (Live c inputs pins done) (sym ends) goes))
+
+  -- ---- the number of values
+
+  -- a building one, or a frozen one, whose format fits
+  pub record Shaped (t : ℕ) (b : Building) : Type 0 where
+    pub levels : b.format.levels ≡ (format_at w t).levels
+    pub shape : b.function.shape ≡ shape_at w t
+    pub runs : RunsStandLast b.format.levels
+    pub long : length b.function.shape ≡ length b.format.levels
+    pub small : AreSmall b.function.shape
+
+  pub shaped : (t : ℕ) (b : Building) → t < length c.program.headers → undecorated b.format ≡ undecorated (format_at w t) → FunctionFits w t b.function → Shaped t b
+  shaped t b lt format f =
+      let can : CanBuild (format_at w t) (shape_at w t) = builds_there c.program.headers c.dims.shapes fits.shapes t lt in
+      let levels : b.format.levels ≡ (format_at w t).levels = ap (λ (x : Format). x.levels) format in
+      record {
+        levels = levels;
+        shape = f.shape;
+        runs = subst RunsStandLast (sym levels) can.placed.runs;
+        long = ap length f.shape ∙ can.shape_is.long ∙ ap length (sym levels);
+        small = subst AreSmall (sym f.shape) can.shape_is.small;
+      }
+
+  module _ (counts : CountsMean) where
+    pub count_is : (t : ℕ) (b : Building) (m : Machine) → Shaped t b → is_large b ≡ false → seen m t ≡ stored (canon b) → value_in m (count_of (heads_in c) t) ≡ pos (length (canon b).val)
+    count_is t b m s few there =
+        ap (λ (ls : List Level). value_of (count_code t ls (shape_at w t)) (seen m) m.locals) (sym s.levels)
+        ∙ ap (λ (ns : List ℕ). value_of (count_code t b.format.levels ns) (seen m) m.locals) (sym s.shape)
+        ∙ counts (seen m) t b.format.levels (canon b) m.locals there (canon_valid b s.runs s.long s.small few)
+
+    -- ---- freezes
+
+    module _ (pins : List ℤ) (r : Run) (m : Machine) (live : Live c inputs pins r m) (t : ℕ) where
+      freeze_built : (b : Building) → stage_at r.stages t ≡ Built b → Related c inputs pins (freeze_at t (Built b) r) (meaning (layout_of c) (freeze_code (heads_in c) t) m)
+      freeze_built b e = by_size (is_large b) refl where
+        own : held m.tensors t ≡ building b
+        own = subst (λ (x : Stage). Stand x (held m.tensors t)) e (live.each t)
+
+        fit : StageFits w t (Built b)
+        fit = subst (λ (x : Stage). StageFits w t x) e (live.fits t)
+
+        lt : t < length c.program.headers
+        lt = stage_there c inputs fits given_fit pins r m live t (Built b) e (λ h. cc)
+
+        frozen : (large : Bool) → is_large b ≡ large → meaning (layout_of c) (Freeze t) m ≡ (if large then cut_off m else changed_to t (stored (canon b)) m)
+        frozen large h =
+            meaning_freeze (layout_of c) t m ∙ ap (λ (x : Bool). if x then m else frozen_at t (held m.tensors t) m) live.cut ∙ ap (λ (y : Tensor). frozen_at t y m) own
+            ∙ ap (λ (x : Bool). if x then cut_off m else changed_to t (stored (canon b)) m) h
+
+        by_size : (large : Bool) → is_large b ≡ large → Related c inputs pins (freeze_at t (Built b) r) (meaning (layout_of c) (freeze_code (heads_in c) t) m)
+        by_size true large =
+            let ends : meaning (layout_of c) (freeze_code (heads_in c) t) m ≡ cut_off m =
+            meaning_seq (layout_of c) (Freeze t ∷ charge_of 1 ∷ Charge (count_of (heads_in c) t) ∷ []) m
+            ∙ ap (λ (n : Machine). meaning (layout_of c) (Charge (count_of (heads_in c) t)) (meaning (layout_of c) (charge_of 1) n)) (frozen true large)
+            ∙ ap (meaning (layout_of c) (Charge (count_of (heads_in c) t))) (cut_pays (layout_of c) (Num (pos 1)) (cut_off m) refl) ∙ cut_pays (layout_of c) (count_of (heads_in c) t) (cut_off m) refl in
+            let over : Over c inputs (freeze_at t (Built b) r) (cut_off m) = record { cut = refl; regular = live.regular; over = omega arith; most = omega (arith, live.charges, storing_large b large) } in
+            inr (subst (Over c inputs (freeze_at t (Built b) r)) (sym ends) over)
+        by_size false few =
+            let n : Machine = changed_to t (stored (canon b)) m in
+            let stage : Run = with_stage t (Frozen (undecorated b.format) b.function) r in
+            let size : ℕ = length (canon b).val in
+            let goes : Live c inputs pins stage n = changed_live c inputs pins r m live t (Frozen (undecorated b.format) b.function) (stored (canon b)) lt (built_is_made c inputs pins r m live fits given_fit t b e) (few, refl) fit in
+            let there : seen n t ≡ stored (canon b) = seen_held c inputs fits given_fit pins stage n goes t ∙ get_or-set_same m.tensors t (stored (canon b)) nothing (omega (arith, lt, live.tensors, length-map c.program.headers (λ (x : Header). x.format))) in
+            let value : value_in (paid 1 n) (count_of (heads_in c) t) ≡ pos size = count_is t b (paid 1 n) (shaped t b lt fit.0 fit.1) few there in
+            let ends : meaning (layout_of c) (freeze_code (heads_in c) t) m ≡ paid (1 + size) n =
+            meaning_seq (layout_of c) (Freeze t ∷ charge_of 1 ∷ Charge (count_of (heads_in c) t) ∷ []) m
+            ∙ ap (λ (x : Machine). meaning (layout_of c) (Charge (count_of (heads_in c) t)) (meaning (layout_of c) (charge_of 1) x)) (frozen false few)
+            ∙ ap (meaning (layout_of c) (Charge (count_of (heads_in c) t))) (number_pays (layout_of c) 1 n live.cut) ∙ charge_pays (layout_of c) (count_of (heads_in c) t) size (paid 1 n) live.cut value
+            ∙ paid_twice 1 size n in
+            let work : worked (1 + size) stage ≡ freeze_at t (Built b) r = ap (λ (k : ℕ). worked k stage) (sym (storing_small b few)) in
+            inl (subst (Live c inputs pins (freeze_at t (Built b) r)) (sym ends) (subst (λ (x : Run). Live c inputs pins x (paid (1 + size) n)) work (worked_live c inputs pins stage n goes (1 + size))))
+
+      pub freeze_goes : regular (freeze t r) ≡ true → Related c inputs pins (freeze t r) (meaning (layout_of c) (freeze_code (heads_in c) t) m)
+      freeze_goes reg = by_stage (stage_at r.stages t) refl reg where
+        by_stage : (x : Stage) → stage_at r.stages t ≡ x → regular (freeze_at t x r) ≡ true → Related c inputs pins (freeze_at t x r) (meaning (layout_of c) (freeze_code (heads_in c) t) m)
+        by_stage Absent e g = cc
+        by_stage (Built b) e g = freeze_built b e
+        by_stage (Frozen format f) e g = cc
