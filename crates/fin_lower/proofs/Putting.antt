@@ -10,7 +10,8 @@ use Rattle.fin_tensor.specs.declared.storage.Storage.{Storage}
 use Rattle.fin_tensor.specs.TensorFunction.{TensorFunction, value_at}
 use Rattle.fin_tensor.specs.Building.{Building, started, CanBuild}
 use Rattle.fin_tensor.specs.Canon.{Slice, kept, next, undecorated, canon_values, is_allowed}
-use Rattle.fin_tensor.specs.Levels.{AreSmall, IsStored}
+use Rattle.fin_tensor.specs.Levels.{AreSmall, value_from}
+use Rattle.fin_tensor.specs.Stands.{tabulated}
 use Rattle.fin_tensor.specs.Placement.{RunsStandLast}
 use Rattle.fin_tensor.proofs.Cells.{filled_has_cells}
 use Rattle.fin_canon.proofs.Listed.{listed_is}
@@ -195,3 +196,50 @@ module _ (c : Checked) (inputs : List Storage) (fits : FitHeaders c.program.head
         by_stage Absent e g = cc
         by_stage (Built b) e g = freeze_built b e
         by_stage (Frozen format f) e g = cc
+
+      -- ---- thaws
+
+      -- what is thawed is the function again
+      thawed_is : (format : Format) (f : TensorFunction) → t < length c.program.headers → StageFits w t (Frozen format f) → thawed (canon_of format f) ≡ unchanged format f
+      thawed_is format f lt fit =
+          let b : Building = unchanged format f in
+          let own : FunctionFits w t f = fit.1 in
+          let s : Shaped t b = shaped t b lt (ap undecorated fit.0) own in
+          let bare : undecorated format ≡ format = ap undecorated fit.0 ∙ sym fit.0 in
+          let fill : format.fill ≡ f.fill = ap (λ (x : Format). x.fill) fit.0 ∙ same_fill w (slice_get c.program.headers t) ∙ sym own.fill in
+          let function : stood_for (canon b) ≡ f = ap (λ (z : ℤ). tabulated f.shape z (value_from f.shape (canon b).parts (canon b).val z 0)) fill ∙ listed_is format.levels f s.runs s.long own.cells in
+          ap (λ (x : Format). unchanged x (stood_for (canon b))) bare ∙ ap (unchanged format) function
+
+      thaw_frozen : (format : Format) (f : TensorFunction) → stage_at r.stages t ≡ Frozen format f → is_made w t ≡ true → Related c inputs pins (thaw_at t (Frozen format f) r) (meaning (layout_of c) (thaw_code (heads_in c) t) m)
+      thaw_frozen format f e made =
+          let b : Building = unchanged format f in
+          let stand : Stand (Frozen format f) (held m.tensors t) = subst (λ (x : Stage). Stand x (held m.tensors t)) e (live.each t) in
+          let fit : StageFits w t (Frozen format f) = subst (λ (x : Stage). StageFits w t x) e (live.fits t) in
+          let lt : t < length c.program.headers = stage_there c inputs fits given_fit pins r m live t (Frozen format f) e (λ h. cc) in
+          let size : ℕ = length (canon b).val in
+          let there : seen m t ≡ stored (canon b) = seen_held c inputs fits given_fit pins r m live t ∙ stand.1 in
+          let value : value_in (paid 1 m) (count_of (heads_in c) t) ≡ pos size = count_is t b (paid 1 m) (shaped t b lt (ap undecorated fit.0) fit.1) stand.0 there in
+          let n : Machine = paid (1 + size) m in
+          let y : Tensor = building (thawed (canon b)) in
+          let thaws : meaning (layout_of c) (Thaw t) n ≡ changed_to t y n =
+              meaning_thaw (layout_of c) t n ∙ ap (λ (x : Bool). if x then n else thawed_at (layout_of c) t (held m.tensors t) n) live.cut ∙ ap (λ (x : Tensor). thawed_at (layout_of c) t x n) stand.1
+              ∙ ap (λ (x : Bool). if x then changed_to t y n else refused n) (made_in_layout t lt made) in
+          let ends : meaning (layout_of c) (thaw_code (heads_in c) t) m ≡ changed_to t y n =
+              meaning_seq (layout_of c) (charge_of 1 ∷ Charge (count_of (heads_in c) t) ∷ Thaw t ∷ []) m
+              ∙ ap (λ (x : Machine). meaning (layout_of c) (Thaw t) (meaning (layout_of c) (Charge (count_of (heads_in c) t)) x)) (number_pays (layout_of c) 1 m live.cut)
+              ∙ ap (meaning (layout_of c) (Thaw t)) (charge_pays (layout_of c) (count_of (heads_in c) t) size (paid 1 m) live.cut value ∙ paid_twice 1 size m) ∙ thaws in
+          let stage : Run = with_stage t (Built b) r in
+          let built : StageFits w t (Built b) = (ap undecorated fit.0, fit.1) in
+          let goes : Live c inputs pins stage (changed_to t y m) = changed_live c inputs pins r m live t (Built b) y lt made (ap building (thawed_is format f lt fit)) built in
+          let work : worked (1 + size) stage ≡ thaw_at t (Frozen format f) r = ap (λ (k : ℕ). worked k stage) (sym (storing_small b stand.0)) in
+          inl (subst (Live c inputs pins (thaw_at t (Frozen format f) r)) (sym ends) (subst (λ (x : Run). Live c inputs pins x (changed_to t y n)) work (worked_live c inputs pins stage (changed_to t y m) goes (1 + size))))
+
+      pub thaw_goes : regular (thaw w t r) ≡ true → Related c inputs pins (thaw w t r) (meaning (layout_of c) (thaw_code (heads_in c) t) m)
+      thaw_goes reg =
+          let made : is_made w t ≡ true = made_by (is_made w t) (thaw_at t (stage_at r.stages t) r) r reg in
+          let run : thaw w t r ≡ thaw_at t (stage_at r.stages t) r = ap (λ (x : Bool). if x then thaw_at t (stage_at r.stages t) r else unalive r) made in
+          subst (λ (x : Run). Related c inputs pins x (meaning (layout_of c) (thaw_code (heads_in c) t) m)) (sym run) (by_stage (stage_at r.stages t) refl made (ap regular (sym run) ∙ reg)) where
+        by_stage : (x : Stage) → stage_at r.stages t ≡ x → is_made w t ≡ true → regular (thaw_at t x r) ≡ true → Related c inputs pins (thaw_at t x r) (meaning (layout_of c) (thaw_code (heads_in c) t) m)
+        by_stage Absent e made g = cc
+        by_stage (Built b) e made g = cc
+        by_stage (Frozen format f) e made g = thaw_frozen format f e made
