@@ -5,3 +5,4 @@ pub mod Seen
 pub mod Beginning
 pub mod Changed
 pub mod Putting
+pub mod Inside
