@@ -1,6 +1,6 @@
 -- Where a run begins: the inputs fit the layout, and the machine does what the run by stages does.
-use Rattle.std.proofs.Common.{◌≡◌, ◌<◌, ◌≤◌, ℕ, zero, suc, max, Bool, true, false, List, [], ◌∷◌, map, length, Option, Some, None, if◌then◌else◌, refl, sym, ap, ◌∙◌, subst, ⊎_elim, ℤ, pos, arith}
-use Rattle.std.specs.Prelude.{slice_index_or, replicate, nat_eq}
+use Rattle.std.proofs.Common.{◌≡◌, ◌<◌, ◌≤◌, ℕ, zero, suc, Bool, true, false, List, [], ◌∷◌, map, if◌then◌else◌, refl, sym, ap, ◌∙◌, subst, ⊎_elim, pos, arith}
+use Rattle.std.specs.Prelude.{slice_index_or, replicate}
 use Rattle.std.proofs.lemmas.Bool.{cases_lt}
 use Rattle.std.proofs.lemmas.List.{length-map, length-replicate, get_or_past, get_or-replicate}
 use Rattle.fin_tensor.specs.declared.format.Format.{Format}
@@ -19,7 +19,7 @@ use Rattle.fin_ast.specs.Shaped.{AreShaped, FitHeaders}
 use Rattle.fin_ir.specs.Machine.{held}
 use Rattle.fin_ir.specs.Regular.{InputsFit, input_boxes}
 use Rattle.fin_ir.proofs.Fitting.{started_fits}
-use Rattle.fin_stage.specs.Stages.{Stage, Absent, stage_at}
+use Rattle.fin_stage.specs.Stages.{Stage, Absent}
 use Rattle.fin_stage.specs.Staged.{before_all}
 use Rattle.fin_stage.proofs.Fits.{absent_at, nothing_fits}
 use Rattle.fin_read.specs.Values.{Heads}

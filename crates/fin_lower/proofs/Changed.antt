@@ -1,6 +1,6 @@
 -- A machine that still does what the run does: after charges, and after one tensor was set.
-use Rattle.std.proofs.Common.{◌≡◌, ◌≢◌, ◌<◌, ◌≤◌, ◌+◌, ℕ, Bool, true, false, List, [], ◌∷◌, length, Option, Some, None, if◌then◌else◌, refl, sym, ap, ◌∙◌, subst, ⊎_elim, ℤ, pos, arith}
-use Rattle.std.specs.Prelude.{slice_set, slice_get, is_none, ◌&&◌}
+use Rattle.std.proofs.Common.{◌≡◌, ◌≢◌, ◌<◌, ◌+◌, ℕ, Bool, true, false, List, length, Option, Some, None, if◌then◌else◌, refl, sym, ap, ◌∙◌, subst, ⊎_elim, ℤ, pos, arith}
+use Rattle.std.specs.Prelude.{slice_set, is_none}
 use Rattle.std.proofs.lemmas.Bool.{cases_eq}
 use Rattle.std.proofs.lemmas.List.{length-map, length-set, get_or-set_same, get_or-set_other}
 use Rattle.fin_tensor.specs.declared.storage.Storage.{Storage}
@@ -23,8 +23,6 @@ use Rattle.fin_stage.specs.Stages.{Stage, Absent, Built, stage_at}
 use Rattle.fin_stage.specs.Staged.{Run, worked, with_stage, unalive, regular, is_made}
 use Rattle.fin_stage.specs.Fitting.{StageFits}
 use Rattle.fin_lower.specs.Lowering.{charge_of}
-use Rattle.fin_lower.specs.Plans.{layout_of}
-use Rattle.fin_lower.specs.Lowered.{begun}
 use Rattle.fin_lower.proofs.Related.{Stand, Live}
 use Rattle.fin_lower.proofs.Given.{given_is_input}
 

@@ -1,6 +1,6 @@
 -- What stands for a header where a run begins: for an input its storage, for any other nothing.
-use Rattle.std.proofs.Common.{◌≡◌, ◌<◌, ◌≤◌, ◌+◌, ℕ, zero, suc, Bool, true, false, List, [], ◌∷◌, map, length, drop, add-one, Option, Some, None, if◌then◌else◌, refl, sym, ap, ◌∙◌, subst, arith}
-use Rattle.std.specs.Prelude.{slice_get, slice_index_or, unwrap_or, is_none, nat_eq}
+use Rattle.std.proofs.Common.{◌≡◌, ◌<◌, ◌+◌, ℕ, zero, suc, Bool, true, false, List, [], ◌∷◌, map, length, drop, add-one, Option, Some, None, if◌then◌else◌, refl, sym, ap, ◌∙◌, subst}
+use Rattle.std.specs.Prelude.{slice_get, slice_index_or, unwrap_or, is_none}
 use Rattle.fin_tensor.specs.declared.storage.Storage.{Storage}
 use Rattle.fin_tensor.specs.TensorFunction.{TensorFunction}
 use Rattle.fin_tensor.specs.Canon.{undecorated}
@@ -15,9 +15,9 @@ use Rattle.fin_ir.specs.Frozen.{frozen_of}
 use Rattle.fin_ir.specs.Machine.{Tensor, nothing, stored, held}
 use Rattle.fin_ir.specs.Start.{given_if, given, first_tensors}
 use Rattle.fin_stage.specs.Staged.{is_made}
-use Rattle.fin_lower.specs.Plans.{kind_number, layout_of}
+use Rattle.fin_lower.specs.Plans.{kind_number}
 use Rattle.fin_lower.specs.Lowered.{begun}
-use Rattle.fin_lower.proofs.Headed.{header_there, input_number, kind_is}
+use Rattle.fin_lower.proofs.Headed.{header_there, input_number}
 
 -- an input's storage has the header's format and shape
 pub record IsInput (x : Header) (shape : List ℕ) (o : Option TensorFunction) (there : Tensor) : Type 0 where

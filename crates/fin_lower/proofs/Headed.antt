@@ -1,5 +1,5 @@
 -- The headers of a program by number: what the layout has of each, and that each tensor can be built.
-use Rattle.std.proofs.Common.{◌≡◌, ◌<◌, ◌≤◌, ℕ, zero, suc, Bool, true, false, List, [], ◌∷◌, map, length, Option, Some, None, refl, sym, ap, ◌∙◌, arith, pos}
+use Rattle.std.proofs.Common.{◌≡◌, ◌<◌, ℕ, zero, suc, List, [], ◌∷◌, map, length, Option, Some, refl, ap, arith}
 use Rattle.std.specs.Prelude.{slice_get, slice_index_or, unwrap_or, option_map, nat_eq}
 use Rattle.fin_tensor.specs.declared.format.Format.{Format}
 use Rattle.fin_tensor.specs.Building.{CanBuild}

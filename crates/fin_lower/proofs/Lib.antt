@@ -6,3 +6,4 @@ pub mod Beginning
 pub mod Changed
 pub mod Putting
 pub mod Inside
+pub mod Updating

@@ -1,15 +1,14 @@
 -- Declarations, freezes and thaws.
-use Rattle.std.proofs.Common.{◌≡◌, ◌<◌, ◌≤◌, ◌+◌, ◌^◌, ℕ, Bool, true, false, ◌&&◌, List, [], ◌∷◌, map, length, Option, Some, None, if◌then◌else◌, refl, sym, ap, ◌∙◌, subst, inl, inr, ℤ, pos, arith}
-use Rattle.std.specs.Prelude.{slice_get, slice_index_or, nat_lt, nat_le, nat_eq, not}
+use Rattle.std.proofs.Common.{◌≡◌, ◌<◌, ◌+◌, ◌^◌, ℕ, Bool, true, false, ◌&&◌, List, [], ◌∷◌, length, if◌then◌else◌, refl, sym, ap, ◌∙◌, subst, inl, inr, ℤ, pos, arith}
+use Rattle.std.specs.Prelude.{slice_get, nat_lt, nat_le, nat_eq, not}
 use Rattle.std.proofs.lemmas.Bool.Decides.{nat_tests}
 use Rattle.std.proofs.lemmas.List.{length-map, get_or-set_same}
 use Rattle.fin_tensor.specs.declared.format.Format.{Format}
 use Rattle.fin_tensor.specs.declared.format.Level.{Level}
-use Rattle.fin_tensor.specs.declared.format.Wrap.TheVariants.{Bare}
 use Rattle.fin_tensor.specs.declared.storage.Storage.{Storage}
 use Rattle.fin_tensor.specs.TensorFunction.{TensorFunction, value_at}
 use Rattle.fin_tensor.specs.Building.{Building, started, CanBuild}
-use Rattle.fin_tensor.specs.Canon.{Slice, kept, next, undecorated, canon_values, is_allowed}
+use Rattle.fin_tensor.specs.Canon.{Slice, kept, next, undecorated, is_allowed}
 use Rattle.fin_tensor.specs.Levels.{AreSmall, value_from}
 use Rattle.fin_tensor.specs.Stands.{tabulated}
 use Rattle.fin_tensor.specs.Placement.{RunsStandLast}
@@ -20,8 +19,7 @@ use Rattle.fin_ast.specs.declared.checked.Checked.{Checked}
 use Rattle.fin_ast.specs.Accepted.{FitProgram}
 use Rattle.fin_ast.specs.Dense.{Setting, setting_of, shape_at}
 use Rattle.fin_ast.specs.Shaped.{FitHeaders}
-use Rattle.fin_ir.specs.declared.code.Code.{Code}
-use Rattle.fin_ir.specs.declared.code.Code.TheVariants.{Seq, Declare, Freeze, Thaw, Charge}
+use Rattle.fin_ir.specs.declared.code.Code.TheVariants.{Declare, Freeze, Thaw, Charge}
 use Rattle.fin_ir.specs.CanBuild.{can_build}
 use Rattle.fin_ir.specs.Frozen.{canon, are_few, is_large, stood_for}
 use Rattle.fin_ir.specs.Machine.{Machine, Tensor, nothing, building, stored, held, seen, refused, can_declare, cut_off, frozen_at, thawed, thawed_at}
@@ -34,13 +32,11 @@ use Rattle.fin_ir.proofs.Codes.{meaning_seq, meaning_declare, meaning_freeze, me
 use Rattle.fin_stage.specs.Stages.{Stage, Absent, Built, Frozen, stage_at, work_of_declaration, work_of_storing}
 use Rattle.fin_stage.specs.Staged.{Run, worked, with_stage, unalive, regular, is_made, format_at, declare, freeze_at, freeze, thaw_at, thaw}
 use Rattle.fin_stage.specs.Fitting.{FunctionFits, StageFits}
-use Rattle.fin_stage.proofs.Alive.{both}
 use Rattle.fin_stage.proofs.Fits.{same_fill}
 use Rattle.fin_read.specs.Counts.{count_code}
 use Rattle.fin_read.specs.Means.{CountsMean}
-use Rattle.fin_read.specs.Values.{format_of, shape_of}
 use Rattle.fin_lower.specs.Lowering.{charge_of, count_of, declare_code, freeze_code, thaw_code}
-use Rattle.fin_lower.specs.Plans.{kind_number, heads_in, layout_of}
+use Rattle.fin_lower.specs.Plans.{heads_in, layout_of}
 use Rattle.fin_lower.specs.Lowered.{canon_of}
 use Rattle.fin_lower.proofs.Related.{unchanged, Stand, Live, Over, Related}
 use Rattle.fin_lower.proofs.Headed.{formats_are, kind_is, input_number, shapes_long, builds_there}
@@ -222,12 +218,12 @@ module _ (c : Checked) (inputs : List Storage) (fits : FitHeaders c.program.head
           let n : Machine = paid (1 + size) m in
           let y : Tensor = building (thawed (canon b)) in
           let thaws : meaning (layout_of c) (Thaw t) n ≡ changed_to t y n =
-              meaning_thaw (layout_of c) t n ∙ ap (λ (x : Bool). if x then n else thawed_at (layout_of c) t (held m.tensors t) n) live.cut ∙ ap (λ (x : Tensor). thawed_at (layout_of c) t x n) stand.1
-              ∙ ap (λ (x : Bool). if x then changed_to t y n else refused n) (made_in_layout t lt made) in
+          meaning_thaw (layout_of c) t n ∙ ap (λ (x : Bool). if x then n else thawed_at (layout_of c) t (held m.tensors t) n) live.cut ∙ ap (λ (x : Tensor). thawed_at (layout_of c) t x n) stand.1
+          ∙ ap (λ (x : Bool). if x then changed_to t y n else refused n) (made_in_layout t lt made) in
           let ends : meaning (layout_of c) (thaw_code (heads_in c) t) m ≡ changed_to t y n =
-              meaning_seq (layout_of c) (charge_of 1 ∷ Charge (count_of (heads_in c) t) ∷ Thaw t ∷ []) m
-              ∙ ap (λ (x : Machine). meaning (layout_of c) (Thaw t) (meaning (layout_of c) (Charge (count_of (heads_in c) t)) x)) (number_pays (layout_of c) 1 m live.cut)
-              ∙ ap (meaning (layout_of c) (Thaw t)) (charge_pays (layout_of c) (count_of (heads_in c) t) size (paid 1 m) live.cut value ∙ paid_twice 1 size m) ∙ thaws in
+          meaning_seq (layout_of c) (charge_of 1 ∷ Charge (count_of (heads_in c) t) ∷ Thaw t ∷ []) m
+          ∙ ap (λ (x : Machine). meaning (layout_of c) (Thaw t) (meaning (layout_of c) (Charge (count_of (heads_in c) t)) x)) (number_pays (layout_of c) 1 m live.cut)
+          ∙ ap (meaning (layout_of c) (Thaw t)) (charge_pays (layout_of c) (count_of (heads_in c) t) size (paid 1 m) live.cut value ∙ paid_twice 1 size m) ∙ thaws in
           let stage : Run = with_stage t (Built b) r in
           let built : StageFits w t (Built b) = (ap undecorated fit.0, fit.1) in
           let goes : Live c inputs pins stage (changed_to t y m) = changed_live c inputs pins r m live t (Built b) y lt made (ap building (thawed_is format f lt fit)) built in
@@ -239,7 +235,7 @@ module _ (c : Checked) (inputs : List Storage) (fits : FitHeaders c.program.head
           let made : is_made w t ≡ true = made_by (is_made w t) (thaw_at t (stage_at r.stages t) r) r reg in
           let run : thaw w t r ≡ thaw_at t (stage_at r.stages t) r = ap (λ (x : Bool). if x then thaw_at t (stage_at r.stages t) r else unalive r) made in
           subst (λ (x : Run). Related c inputs pins x (meaning (layout_of c) (thaw_code (heads_in c) t) m)) (sym run) (by_stage (stage_at r.stages t) refl made (ap regular (sym run) ∙ reg)) where
-        by_stage : (x : Stage) → stage_at r.stages t ≡ x → is_made w t ≡ true → regular (thaw_at t x r) ≡ true → Related c inputs pins (thaw_at t x r) (meaning (layout_of c) (thaw_code (heads_in c) t) m)
-        by_stage Absent e made g = cc
-        by_stage (Built b) e made g = cc
-        by_stage (Frozen format f) e made g = thaw_frozen format f e made
+            by_stage : (x : Stage) → stage_at r.stages t ≡ x → is_made w t ≡ true → regular (thaw_at t x r) ≡ true → Related c inputs pins (thaw_at t x r) (meaning (layout_of c) (thaw_code (heads_in c) t) m)
+            by_stage Absent e made g = cc
+            by_stage (Built b) e made g = cc
+            by_stage (Frozen format f) e made g = thaw_frozen format f e made

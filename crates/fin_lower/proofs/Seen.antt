@@ -1,5 +1,5 @@
 -- What code sees as a storage of a function: inputs, and canonical storages that aren't too large.
-use Rattle.std.proofs.Common.{◌≡◌, ◌<◌, ◌≤◌, ℕ, zero, suc, Bool, true, false, List, [], ◌∷◌, length, Option, Some, None, refl, sym, ap, ◌∙◌, subst, ⊎_elim, ℤ, arith}
+use Rattle.std.proofs.Common.{◌≡◌, ◌<◌, ◌≤◌, ℕ, true, false, List, [], ◌∷◌, length, Option, Some, None, refl, sym, ap, ◌∙◌, subst, ⊎_elim, ℤ, arith}
 use Rattle.std.specs.Prelude.{not, is_none, slice_get}
 use Rattle.std.specs.Option.{option_or}
 use Rattle.std.proofs.lemmas.Bool.{cases_lt}
@@ -17,7 +17,6 @@ use Rattle.fin_tensor.proofs.Tabulated.{tabulated_shape, tabulated_fill, stands_
 use Rattle.fin_canon.proofs.Placed.{placed_over}
 use Rattle.fin_canon.proofs.Valid.{slices_are_valid}
 use Rattle.fin_canon.proofs.Listed.{listed_value}
-use Rattle.fin_ast.specs.declared.header.Header.{Header}
 use Rattle.fin_ast.specs.declared.checked.Checked.{Checked}
 use Rattle.fin_ast.specs.Accepted.{FitProgram}
 use Rattle.fin_ast.specs.Dense.{made_at, setting_of}
@@ -26,15 +25,14 @@ use Rattle.fin_ir.specs.Frozen.{frozen_of, canon, are_few, is_large}
 use Rattle.fin_ir.specs.Machine.{Machine, Tensor, stored, over, held, seen}
 use Rattle.fin_ir.proofs.Freezing.{few_allowed}
 use Rattle.fin_stage.specs.Stages.{Stage, Absent, Built, Frozen, stage_at, frozen_in, readable}
-use Rattle.fin_stage.specs.Staged.{Run, format_at}
+use Rattle.fin_stage.specs.Staged.{Run}
 use Rattle.fin_stage.specs.Fitting.{FunctionFits, StageFits}
 use Rattle.fin_stage.proofs.Fits.{same_fill}
 use Rattle.fin_read.specs.Values.{format_of, shape_of}
 use Rattle.fin_read.specs.Sees.{Sees, SeesAll}
 use Rattle.fin_lower.specs.Plans.{heads_in}
-use Rattle.fin_lower.specs.Lowered.{canon_of}
 use Rattle.fin_lower.proofs.Headed.{format_is, builds_there}
-use Rattle.fin_lower.proofs.Given.{IsInput, given_is_input}
+use Rattle.fin_lower.proofs.Given.{given_is_input}
 use Rattle.fin_lower.proofs.Related.{unchanged, Stand, Live}
 
 -- ---- one tensor
