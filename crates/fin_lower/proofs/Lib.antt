@@ -8,3 +8,11 @@ pub mod Turns
 pub mod Saving
 pub mod Control
 pub mod Naming
+pub mod Headed
+pub mod Given
+pub mod Seen
+pub mod Beginning
+pub mod Changed
+pub mod Putting
+pub mod Inside
+pub mod Updating
