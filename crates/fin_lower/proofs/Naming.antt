@@ -22,7 +22,7 @@ use Rattle.fin_ir.proofs.Nodes.{of_num, of_local, of_seq, of_assign, of_when, of
 use Rattle.fin_stage.proofs.Alive.{left, right, both}
 use Rattle.fin_read.specs.Values.{Lowered, value_code, prelude}
 use Rattle.fin_read.specs.Means.{ValuesAreNamed}
-use Rattle.fin_lower.specs.Lowering.{charge_of, move_code, cond_code, bind_code, loop_code, code_of_stmt, code_of_all}
+use Rattle.fin_lower.specs.Lowering.{charge_of, move_code, range_at, cond_code, bind_code, loop_code, code_of_stmt, code_of_all}
 use Rattle.fin_lower.specs.Room.{end_of, reach_of}
 use Rattle.fin_lower.specs.Plans.{heads_in, sides_in, variables_in, layout_of}
 use Rattle.fin_lower.proofs.Placed.{Placed, StmtFits, BodyFits, first_fits, rest_fits, loop_placed, let_placed, block_fits, loop_bound, loop_fits, cond_fits, test_named, test_room, bind_bound, bind_fits, value_named, value_room, code_block, code_loop, code_cond, code_bind}
@@ -97,8 +97,14 @@ module _ (c : Checked) where
       let next_room : next < l.locals = omega (arith, room) in
       let turn : List Code = charge_of 1 ∷ code_of_all (sides_in c) (next + 1) body in
       let turn_named : is_named l (Seq turn) ≡ true = named_seq l turn (one_more l (charge_of 1) (code_of_all (sides_in c) (next + 1) body) (charge_named l 1) (all_are_named body all (within_loop sc var) (next + 1) (loop_placed c sc next var lt p) inner)) in
+      let ends : ℕ × ℕ = range_at (sides_in c) var in
+      let tail : List Code = move_code var next ∷ [] in
+      let each : Code = ForLoop var (Num (pos ends.0)) (Num (pos ends.1)) (Seq turn) in
+      let tail_named : list_all (is_named l) tail ≡ true = one_more l (move_code var next) [] (move_named l var next var_room next_room) refl in
+      let each_named : list_all (is_named l) (each ∷ tail) ≡ true = one_more l each tail (named_for l var ends.0 ends.1 (Seq turn) var_room turn_named) tail_named in
+      let saved_named : list_all (is_named l) (move_code next var ∷ each ∷ tail) ≡ true = one_more l (move_code next var) (each ∷ tail) (move_named l next var next_room var_room) each_named in
       ap (is_named l) (code_loop (sides_in c) next var range par body line last)
-      ∙ named_seq l _ (one_more l (charge_of 1) _ (charge_named l 1) (one_more l (move_code next var) _ (move_named l next var next_room var_room) (one_more l _ _ (named_for l var _ _ (Seq turn) var_room turn_named) (one_more l (move_code var next) [] (move_named l var next var_room next_room) refl))))
+      ∙ named_seq l (charge_of 1 ∷ move_code next var ∷ each ∷ tail) (one_more l (charge_of 1) (move_code next var ∷ each ∷ tail) (charge_named l 1) saved_named)
 
   -- ---- statements with values
 
@@ -117,8 +123,10 @@ module _ (c : Checked) where
         let codes : List Code = code_of_all (sides_in c) next body in
         let known = value_is_named sc next test p (test_named c sc next test body line last f) (test_room c sc next test body line last f) in
         let inner : is_named l (Seq codes) ≡ true = named_seq l codes (all_are_named body all sc next p (cond_fits c sc next test body line last f)) in
-        ap (is_named l) (code_cond (sides_in c) next test body line last)
-        ∙ named_seq l _ (one_more l (charge_of 1) _ (charge_named l 1) (some_more l (prelude v) (When v.value (Seq codes) ∷ []) known.0 (one_more l (When v.value (Seq codes)) [] (named_when l v.value (Seq codes) known.1 inner) refl)))
+        let choice : Code = When v.value (Seq codes) in
+        let choice_named : list_all (is_named l) (choice ∷ []) ≡ true = one_more l choice [] (named_when l v.value (Seq codes) known.1 inner) refl in
+        let steps_named : list_all (is_named l) (prelude v ++ choice ∷ []) ≡ true = some_more l (prelude v) (choice ∷ []) known.0 choice_named in
+        ap (is_named l) (code_cond (sides_in c) next test body line last) ∙ named_seq l (charge_of 1 ∷ prelude v ++ choice ∷ []) (one_more l (charge_of 1) (prelude v ++ choice ∷ []) (charge_named l 1) steps_named)
 
     pub bind_named : (var : ℕ) (value : Expr) (body : List Stmt) (line last : ℕ) → AllOf Named body → Named (s.Bind var value body line last)
     bind_named var value body line last all sc next p f =
@@ -135,7 +143,12 @@ module _ (c : Checked) where
         let around : Placed c sc (next + 1) = record { headers = p.headers; within = p.within; after = omega (arith, after) } in
         let known = value_is_named sc (next + 1) value around (value_named c sc next var value body line last f) (value_room c sc next var value body line last f) in
         let codes_named : is_named l (Seq codes) ≡ true = named_seq l codes (all_are_named body all (within_let sc var) (next + 1) (let_placed c sc next var lt p) inner) in
-        let last_ones : List Code = Assign var v.value ∷ Seq codes ∷ move_code var next ∷ [] in
-        let last_named : list_all (is_named l) last_ones ≡ true = one_more l (Assign var v.value) _ (named_assign l var v.value var_room known.1) (one_more l (Seq codes) _ codes_named (one_more l (move_code var next) [] (move_named l var next var_room next_room) refl)) in
+        let tail : List Code = move_code var next ∷ [] in
+        let tail_named : list_all (is_named l) tail ≡ true = one_more l (move_code var next) [] (move_named l var next var_room next_room) refl in
+        let body_named : list_all (is_named l) (Seq codes ∷ tail) ≡ true = one_more l (Seq codes) tail codes_named tail_named in
+        let put : Code = Assign var v.value in
+        let put_named : list_all (is_named l) (put ∷ Seq codes ∷ tail) ≡ true = one_more l put (Seq codes ∷ tail) (named_assign l var v.value var_room known.1) body_named in
+        let steps_named : list_all (is_named l) (prelude v ++ put ∷ Seq codes ∷ tail) ≡ true = some_more l (prelude v) (put ∷ Seq codes ∷ tail) known.0 put_named in
+        let saved_named : list_all (is_named l) (move_code next var ∷ prelude v ++ put ∷ Seq codes ∷ tail) ≡ true = one_more l (move_code next var) (prelude v ++ put ∷ Seq codes ∷ tail) (move_named l next var next_room var_room) steps_named in
         ap (is_named l) (code_bind (sides_in c) next var value body line last)
-        ∙ named_seq l _ (one_more l (charge_of 1) _ (charge_named l 1) (one_more l (move_code next var) _ (move_named l next var next_room var_room) (some_more l (prelude v) last_ones known.0 last_named)))
+        ∙ named_seq l (charge_of 1 ∷ move_code next var ∷ prelude v ++ put ∷ Seq codes ∷ tail) (one_more l (charge_of 1) (move_code next var ∷ prelude v ++ put ∷ Seq codes ∷ tail) (charge_named l 1) saved_named)
