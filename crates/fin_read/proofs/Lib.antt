@@ -4,3 +4,4 @@ pub mod Equations
 pub mod Following
 pub mod Indexing
 pub mod Valuing
+pub mod Naming
