@@ -23,6 +23,7 @@ use Rattle.fin_ir.proofs.Nodes.{of_num, of_local, of_neg, of_two, of_pick, of_ce
 use Rattle.fin_stage.proofs.Alive.{left, right, both}
 use Rattle.fin_read.specs.Steps.{Step, assign_of}
 use Rattle.fin_read.specs.Reads.{none, in_extent, in_box, fibre_begin, fibre_end, where_placed, sought, found, in_block, step_to, level_steps, levels_steps, first_step, last_step, read_steps}
+use Rattle.fin_read.specs.Counts.{below_level, count_from, count_code}
 use Rattle.fin_read.specs.Values.{Heads, Lowered, format_of, shape_of, var_code, index_code, two_after, value_code, prelude}
 use Rattle.fin_read.specs.Means.{IsWithin, ValuesAreNamed}
 use Rattle.fin_read.proofs.ByKind.{Kinds, by_kind}
@@ -151,6 +152,23 @@ module _ (layout : Layout) where
     read_named levels shape fill xs all =
         step at (Pick (in_box shape xs) (Num (pos 0)) none) (levels_steps tensor 0 levels shape xs at ++ last_step tensor fill at ∷ []) here (pick (in_box shape xs) (Num (pos 0)) none (box shape xs all) (num (pos 0)) (num _))
         (steps_append (levels_steps tensor 0 levels shape xs at) (last_step tensor fill at ∷ []) (all_levels 0 levels shape xs all) (last fill))
+
+  -- ---- the number of values
+  module _ (tensor : ℕ) (has : HasTensor tensor) where
+    below_named : (k : ℕ) (l : Level) (n : ℕ) (count : IExpr) → Named count → Named (below_level tensor k l n count)
+    below_named k level.Dense n count is = two op.Mul count (Num (pos n)) is (num (pos n))
+    below_named k level.List n count is = cell tensor k table.Ptr count has is
+    below_named k level.Dict n count is = cell tensor k table.Ptr count has is
+    below_named k level.Runs n count is = cell tensor k table.Ptr count has is
+    below_named k level.Band n count is = cell tensor k table.Ptr count has is
+
+    count_from_named : (k : ℕ) (ls : List Level) (ns : List ℕ) (count : IExpr) → Named count → Named (count_from tensor k ls ns count)
+    count_from_named k [] ns count is = is
+    count_from_named k (l ∷ ls) [] count is = is
+    count_from_named k (l ∷ ls) (n ∷ ns) count is = count_from_named (k + 1) ls ns (below_level tensor k l n count) (below_named k l n count is)
+
+    pub count_named : (ls : List Level) (ns : List ℕ) → Named (count_code tensor ls ns)
+    count_named ls ns = count_from_named 0 ls ns (Num (pos 1)) (num (pos 1))
 
   -- ---- indices
   module _ (s : Scope) (within : (var : ℕ) → is_loop s (Some var) ≡ true → HasLocal var) where
