@@ -1,5 +1,5 @@
 -- Lists of levels and extents without their first.
-use Rattle.std.proofs.Common.{◌≡◌, ℕ, suc, ◌+◌, ◌-◌, ◌<◌, ◌≤◌, List, [], ◌∷◌, ◌++◌, map, append-nil, length, take, drop, refl, sym, ap, ◌∙◌, subst, arith}
+use Rattle.std.proofs.Common.{◌≡◌, ℕ, zero, suc, ◌+◌, ◌-◌, ◌^◌, ◌<◌, ◌≤◌, List, [], ◌∷◌, ◌++◌, map, append-nil, length, take, drop, refl, sym, ap, ◌∙◌, subst, arith}
 use Rattle.fin_base.specs.declared.terms.Op.{Op}
 use Rattle.fin_tensor.specs.declared.format.Level.{Level}
 use Rattle.fin_tensor.specs.Levels.{AreSmall}
@@ -7,6 +7,7 @@ use Rattle.fin_ir.specs.declared.expression.IExpr.{IExpr}
 use Rattle.fin_ir.specs.declared.code.Code.{Code}
 use Rattle.fin_read.specs.Steps.{Step, assign_of}
 use Rattle.fin_read.specs.Reads.{levels_steps}
+use Rattle.fin_read.specs.Values.{AreShapes}
 use Rattle.fin_read.specs.Counts.{count_from}
 
 pub small_rest : (ns : List ℕ) → AreSmall ns → AreSmall (drop 1 ns)
@@ -24,6 +25,11 @@ small_part ns h = subst AreSmall (sym (whole ns)) (small_rest ns h) where
   whole (x ∷ xs) =
       let same : length (x ∷ xs) - 1 ≡ length xs = omega arith in
       ap (λ (n : ℕ). take n xs) same ∙ all xs
+
+pub one_shape : (n : ℕ) → n ≤ 2 ^ 40 → AreShapes ((n ∷ []) ∷ [])
+one_shape n h zero zero lt = h
+one_shape n h zero (suc k) lt = absurd (omega (arith, lt))
+one_shape n h (suc tensor) k lt = absurd (omega (arith, lt))
 
 pub count_ends : (tensor k : ℕ) (ls : List Level) (ns : List ℕ) (count : IExpr) → length ns ≡ 0 → count_from tensor k ls ns count ≡ count
 count_ends tensor k [] ns count h = refl

@@ -5,3 +5,9 @@ pub mod Remaining
 pub mod Reading
 pub mod Counting
 pub mod Fronts
+pub mod ByKind
+pub mod Equations
+pub mod Following
+pub mod Indexing
+pub mod Valuing
+pub mod Naming

@@ -10,10 +10,12 @@ mod counts;
 mod laws;
 mod parts;
 mod reads;
+#[cfg(test)]
+mod tests;
 mod values;
 
 pub use counts::count_expr;
-pub use laws::{counts_mean, reads_mean};
+pub use laws::{counts_mean, reads_mean, values_are_named, values_mean};
 pub use parts::push;
 pub use reads::{in_box, in_extent};
 pub use values::{Heads, Value, format_of, index_codes, push_value, shape_of};
