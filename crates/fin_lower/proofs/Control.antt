@@ -44,7 +44,7 @@ pub wider : (c : Checked) (sc : Scope) (n k : ℕ) → n ≤ k → Placed c sc n
 wider c sc n k le p = record { headers = p.headers; within = p.within; after = omega (arith, le, p.after) }
 
 module _ (c : Checked) (inputs : List Storage) where
-  by_both : (ps : List ℤ) (n n' : Run) (m m' : Machine) → n ≡ n' → m ≡ m' → Related c inputs ps n' m' → Related c inputs ps n m
+  pub by_both : (ps : List ℤ) (n n' : Run) (m m' : Machine) → n ≡ n' → m ≡ m' → Related c inputs ps n' m' → Related c inputs ps n m
   by_both ps n n' m m' e d rel = subst (λ (x : Run). Related c inputs ps x m) (sym e) (subst (Related c inputs ps n') (sym d) rel)
 
   pub block_goes : (body : List Stmt) (line last : ℕ) → AllOf (Goes c inputs) body → Goes c inputs (s.Block body line last)

@@ -16,3 +16,5 @@ pub mod Still
 pub mod Turns
 pub mod Updating
 pub mod Valued
+pub mod Beside
+pub mod Whole

@@ -109,7 +109,7 @@ module _ (c : Checked) where
   -- ---- statements with values
 
   module _ (values : ValuesAreNamed) where
-    value_is_named : (sc : Scope) (next : ℕ) (e : Expr) → Placed c sc next → is_named_expr e sc ≡ true → end_of (value_code (heads_in c) e next) ≤ (layout_of c).locals
+    pub value_is_named : (sc : Scope) (next : ℕ) (e : Expr) → Placed c sc next → is_named_expr e sc ≡ true → end_of (value_code (heads_in c) e next) ≤ (layout_of c).locals
         → (list_all (is_named (layout_of c)) (prelude (value_code (heads_in c) e next)) ≡ true) × (is_named_in (layout_of c) (value_code (heads_in c) e next).value ≡ true)
     value_is_named sc next e p named room = values (layout_of c) (heads_in c) sc (variables_in c) e next p.headers (lengths c.program.headers) p.within named p.after room where
       lengths : (hs : List Header) → length hs ≤ length (map (λ (x : Header). x.format) hs)

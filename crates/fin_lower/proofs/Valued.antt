@@ -48,7 +48,7 @@ read_good : (b : Bool) (r : Run) → Good (asked_to_read b r) → b ≡ true
 read_good true r g = refl
 read_good false r g = absurd (let e : false ≡ true = g.alive in cc)
 
-was_small : (b : Bool) (r : Run) → Good (asked_for_small b r) → b ≡ true
+pub was_small : (b : Bool) (r : Run) → Good (asked_for_small b r) → b ≡ true
 was_small true r g = refl
 was_small false r g = absurd (let e : false ≡ true = g.small in cc)
 
