@@ -18,7 +18,7 @@ small_shape : (o : Option Given) → IfSome (option_map shape_of o) AreSmall
 small_shape None = tt
 small_shape (Some g) = let s : Storage = g.storage in stored_extents 1 s.format.levels s.shape s.parts s.val s.valid
 
-small_shapes : (headers : List Header) (given : Tensors) → AreSmallShapes (shapes_of headers given)
+pub small_shapes : (headers : List Header) (given : Tensors) → AreSmallShapes (shapes_of headers given)
 small_shapes [] given = All-nil (λ (o : Option (List ℕ)). IfSome o AreSmall)
 small_shapes (h ∷ hs) given = All-cons (λ (o : Option (List ℕ)). IfSome o AreSmall) (option_map shape_of (given_to given h)) (shapes_of hs given) (small_shape (given_to given h)) (small_shapes hs given)
 

@@ -3,3 +3,4 @@ pub mod Strays
 pub mod OneWhole
 pub mod Verdicts
 pub mod JobsFit
+pub mod Fitted

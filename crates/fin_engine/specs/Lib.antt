@@ -2,3 +2,4 @@ pub mod Cut
 pub mod Inputs
 pub mod Numbers
 pub mod Verdict
+pub mod Run

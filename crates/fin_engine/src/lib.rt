@@ -12,7 +12,9 @@ mod cut;
 mod inputs;
 mod job;
 mod numbers;
+mod run;
 mod verdict;
 
 pub use job::Job;
+pub use run::{Done, run_job_one};
 pub use verdict::check;

@@ -5,3 +5,7 @@
 //! evaluation gives, and its charges are the coordinate work; where it is cut, its charges are over 2^40, and at most that
 //! work.
 #![tactic(auto)]
+
+mod plans;
+
+pub use plans::lower;

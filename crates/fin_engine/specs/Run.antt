@@ -1,0 +1,58 @@
+-- Runs of a job's loop code: the outputs in canonical storage, or that the work is over the budget.
+use Rattle.std.specs.Prelude.{◌≡◌, ℕ, ◌+◌, ◌<◌, ◌≤◌, true, if◌then◌else◌, List, [], ◌∷◌, ◌++◌, drop, Some, Result, Ok, Err, slice_get}
+use Rattle.fin_base.specs.declared.refusal.Fail.{Fail}
+use Rattle.fin_base.specs.declared.refusal.Fail.TheVariants.{Refused, Memory}
+use Rattle.fin_base.specs.declared.refusal.Rule.TheVariants.{W1}
+use Rattle.fin_tensor.specs.TensorFunction.{TensorFunction}
+use Rattle.fin_tensor.specs.Canon.{IsCanon, undecorated}
+use Rattle.fin_tensor.specs.declared.storage.Storage.{Storage}
+use Rattle.fin_ast.specs.declared.header.Header.{Header}
+use Rattle.fin_ast.specs.declared.checked.Checked.{Checked}
+use Rattle.fin_ast.specs.Dense.{function_of}
+use Rattle.fin_ast.specs.Life.{is_output}
+use Rattle.fin_stage.specs.Staged.{coordinate_work}
+use Rattle.fin_run.specs.declared.state.Held.{Held}
+use Rattle.fin_run.specs.Storages.{storage_in}
+use Rattle.fin_engine.specs.declared.run.Done.{Done}
+
+-- the outputs among headers from a number on
+abbrev pub outputs_from : ℕ → List Header → List (ℕ × Header)
+outputs_from tensor [] = []
+outputs_from tensor (h ∷ hs) = if is_output h.kind then (tensor, h) ∷ outputs_from (tensor + 1) hs else outputs_from (tensor + 1) hs
+
+-- these are the canonical storages of their functions, in order
+abbrev pub AreStored : (ℕ → TensorFunction) → List (ℕ × Header) → List (ℕ × Storage) → Type 0
+AreStored f [] [] = Unit {0}
+AreStored f (e ∷ es) (o ∷ os) = (o.0 ≡ e.0) × IsCanon (undecorated e.1.format) (f e.0) o.1 × AreStored f es os
+AreStored f es os = ⊥
+
+-- the outputs are those of dense evaluation, and the work is the program's, coordinate by coordinate, and within the budget
+pub record IsDone (c : Checked) (inputs : List Storage) (budget : ℕ) (done : Done) : Type 0 where
+  pub stored : AreStored (function_of c inputs) (outputs_from 0 c.program.headers) done.outputs.tensors
+  pub work : done.work ≡ coordinate_work c inputs
+  pub within : coordinate_work c inputs ≤ budget
+
+-- W1, without a line: the work is over the budget
+abbrev pub IsSpent : Checked → List Storage → ℕ → Fail → Type 0
+IsSpent c inputs budget (Refused r) = (r ≡ record { rule = W1; line = 0 }) × (budget < coordinate_work c inputs)
+IsSpent c inputs budget (Memory e) = Unit {0}
+
+-- what a run answers; want of memory is free
+abbrev pub RunsOne : Checked → List Storage → ℕ → Result Done Fail → Type 0
+RunsOne c inputs budget (Ok done) = IsDone c inputs budget done
+RunsOne c inputs budget (Err fail) = IsSpent c inputs budget fail
+
+-- ---- the end of a run
+
+-- a tensor is held as the canonical storage of its function
+abbrev pub IsHeld : Checked → List Storage → List Held → ℕ → Header → Type 0
+IsHeld c inputs held tensor h = (s : Storage) × (storage_in inputs held tensor ≡ Some s) × IsCanon (undecorated h.format) (function_of c inputs tensor) s
+
+-- so is each output from a number on
+abbrev pub HoldsOutputs : Checked → List Storage → List Held → ℕ → Type 0
+HoldsOutputs c inputs held n = (tensor : ℕ) (h : Header) → n ≤ tensor → slice_get c.program.headers tensor ≡ Some h → is_output h.kind ≡ true → IsHeld c inputs held tensor h
+
+-- what is stored of the outputs before a number; what is stored of the others goes behind it
+abbrev pub IsFront : Checked → List Storage → ℕ → List (ℕ × Storage) → Type 0
+IsFront c inputs n front = (os : List (ℕ × Storage)) → AreStored (function_of c inputs) (outputs_from n (drop n c.program.headers)) os
+    → AreStored (function_of c inputs) (outputs_from 0 c.program.headers) (front ++ os)
