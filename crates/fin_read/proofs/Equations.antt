@@ -1,5 +1,5 @@
 -- The code of each kind of expression, and what is tested of each.
-use Rattle.std.proofs.Common.{◌≡◌, ℕ, ◌+◌, ◌≤◌, ℤ, Bool, true, ◌&&◌, List, [], map, ap, subst, sym, ◌∙◌, arith}
+use Rattle.std.proofs.Common.{◌≡◌, ℕ, ◌+◌, ◌≤◌, ℤ, Bool, ◌&&◌, List, [], map, ap, subst, sym, arith}
 use Rattle.std.specs.Prelude.{is_some}
 use Rattle.fin_base.specs.declared.terms.Op.{Op}
 use Rattle.fin_ast.specs.declared.tree.Index.{Index}

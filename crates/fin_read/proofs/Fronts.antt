@@ -1,6 +1,5 @@
 -- Lists of levels and extents without their first.
-use Rattle.std.proofs.Common.{◌≡◌, ℕ, zero, suc, ◌+◌, ◌-◌, ◌^◌, ◌<◌, ◌≤◌, List, [], ◌∷◌, ◌++◌, map, append-nil, length, take, drop, refl, sym, ap, ◌∙◌, subst, arith}
-use Rattle.fin_base.specs.declared.terms.Op.{Op}
+use Rattle.std.proofs.Common.{◌≡◌, ℕ, zero, suc, ◌-◌, ◌^◌, ◌≤◌, List, [], ◌∷◌, ◌++◌, map, append-nil, length, take, drop, refl, sym, ap, ◌∙◌, subst, arith}
 use Rattle.fin_tensor.specs.declared.format.Level.{Level}
 use Rattle.fin_tensor.specs.Levels.{AreSmall}
 use Rattle.fin_ir.specs.declared.expression.IExpr.{IExpr}

@@ -1,6 +1,6 @@
 -- The code of indices has the places that they point at: sums of small numbers, which don't wrap.
-use Rattle.std.proofs.Common.{◌≡◌, ℕ, ◌+◌, ◌-◌, ◌*◌, ◌<◌, ◌≤◌, ◌^◌, Bool, true, ◌&&◌, ◌||◌, List, [], ◌∷◌, map, length, Option, Some, None, refl, sym, ap, ◌∙◌, subst, ℤ, pos, negsuc, ◌+ℤ◌, arith, FitsSigned, w64}
-use Rattle.std.specs.Prelude.{unsigned_abs, nat_le}
+use Rattle.std.proofs.Common.{◌≡◌, ℕ, ◌+◌, ◌-◌, ◌*◌, ◌≤◌, ◌^◌, Bool, true, ◌&&◌, ◌||◌, List, [], ◌∷◌, map, length, Option, Some, None, refl, ap, ◌∙◌, ℤ, pos, negsuc, ◌+ℤ◌, arith, w64}
+use Rattle.std.specs.Prelude.{unsigned_abs}
 use Rattle.std.specs.List.{list_all}
 use Rattle.std.proofs.lemmas.Bool.Decides.{nat_tests}
 use Rattle.std.proofs.lemmas.Int.{int_wrap_fits, int_wrap-add_left, fits_signed_from_abs}
@@ -11,7 +11,7 @@ use Rattle.fin_ast.specs.declared.tree.Index.{Index}
 use Rattle.fin_ast.specs.Scope.{Scope, is_among, is_bound, is_loop, is_index, differ}
 use Rattle.fin_ast.specs.Value.{Numbers, number_if, place}
 use Rattle.fin_ir.specs.declared.expression.IExpr.{IExpr}
-use Rattle.fin_ir.specs.declared.expression.IExpr.TheVariants.{Num, Local, Two}
+use Rattle.fin_ir.specs.declared.expression.IExpr.TheVariants.{Num, Two}
 use Rattle.fin_ir.specs.Machine.{Tensor}
 use Rattle.fin_ir.specs.Value.{value_of}
 use Rattle.fin_ir.proofs.Values.{value_num, value_local, value_two}

@@ -1,5 +1,5 @@
 -- The layout has the locals and tensors that the code of expressions names.
-use Rattle.std.proofs.Common.{◌≡◌, ℕ, zero, suc, ◌+◌, ◌<◌, ◌≤◌, Bool, true, false, ◌&&◌, List, [], ◌∷◌, ◌++◌, map, length, Option, Some, None, refl, sym, ap, ◌∙◌, subst, ℤ, pos, arith, nat_lt}
+use Rattle.std.proofs.Common.{◌≡◌, ℕ, zero, suc, ◌+◌, ◌<◌, ◌≤◌, Bool, true, ◌&&◌, List, [], ◌∷◌, ◌++◌, map, length, Option, Some, None, refl, sym, ◌∙◌, subst, ℤ, pos, arith, nat_lt}
 use Rattle.std.specs.Prelude.{slice_get, ◌==◌}
 use Rattle.std.specs.List.{list_all}
 use Rattle.std.proofs.lemmas.Bool.Decides.{nat_tests}
@@ -13,7 +13,6 @@ use Rattle.fin_ast.specs.declared.tree.Expr.{Expr}
 use Rattle.fin_ast.specs.declared.tree.Expr.TheVariants as e
 use Rattle.fin_ast.specs.Scope.{Scope, holds_of, is_loop, is_index, differ, is_named_expr}
 use Rattle.fin_ir.specs.declared.layout.Layout.{Layout}
-use Rattle.fin_ir.specs.declared.code.Code.{Code}
 use Rattle.fin_ir.specs.declared.expression.Table.{Table}
 use Rattle.fin_ir.specs.declared.expression.Table.TheVariants as table
 use Rattle.fin_ir.specs.declared.expression.IExpr.{IExpr}
@@ -22,12 +21,12 @@ use Rattle.fin_ir.specs.Named.{has_local, has_tensor, expression_step, is_named_
 use Rattle.fin_ir.proofs.Nodes.{of_num, of_local, of_neg, of_two, of_pick, of_cell, of_seek, of_val, of_assign}
 use Rattle.fin_stage.proofs.Alive.{left, right, both}
 use Rattle.fin_read.specs.Steps.{Step, assign_of}
-use Rattle.fin_read.specs.Reads.{none, in_extent, in_box, fibre_begin, fibre_end, where_placed, sought, found, in_block, step_to, level_steps, levels_steps, first_step, last_step, read_steps}
+use Rattle.fin_read.specs.Reads.{none, in_extent, in_box, fibre_begin, fibre_end, where_placed, sought, found, in_block, step_to, level_steps, levels_steps, last_step, read_steps}
 use Rattle.fin_read.specs.Counts.{below_level, count_from, count_code}
-use Rattle.fin_read.specs.Values.{Heads, Lowered, format_of, shape_of, var_code, index_code, two_after, value_code, prelude}
+use Rattle.fin_read.specs.Values.{Heads, Lowered, format_of, shape_of, var_code, index_code, value_code, prelude}
 use Rattle.fin_read.specs.Means.{IsWithin, ValuesAreNamed}
 use Rattle.fin_read.proofs.ByKind.{Kinds, by_kind}
-use Rattle.fin_read.proofs.Equations.{lowered, code_num, code_var, code_read, code_neg, code_two, named_var, named_read, named_neg, named_two, code_grows}
+use Rattle.fin_read.proofs.Equations.{code_num, code_var, code_read, code_neg, code_two, named_var, named_read, named_neg, named_two, code_grows}
 use Rattle.fin_read.proofs.Indexing.{loop_is_bound}
 
 module _ (layout : Layout) where

@@ -1,6 +1,6 @@
 -- The code of an expression gives its value.
-use Rattle.std.proofs.Common.{◌≡◌, ℕ, ◌+◌, ◌<◌, ◌≤◌, Bool, true, ◌&&◌, List, [], ◌++◌, map, length, Option, Some, None, refl, sym, ap, ◌∙◌, subst, ℤ, pos, arith}
-use Rattle.std.specs.Prelude.{is_some, slice_index_or, slice_get, ◌==◌}
+use Rattle.std.proofs.Common.{◌≡◌, ℕ, ◌+◌, ◌<◌, ◌≤◌, true, List, [], ◌++◌, map, length, Option, Some, None, refl, sym, ap, ◌∙◌, subst, ℤ, arith}
+use Rattle.std.specs.Prelude.{is_some, slice_get, ◌==◌}
 use Rattle.std.specs.List.{list_all}
 use Rattle.fin_base.specs.declared.terms.Op.{Op}
 use Rattle.fin_base.specs.Words.{operate, negated}
@@ -9,11 +9,11 @@ use Rattle.fin_ast.specs.declared.header.Header.{Header}
 use Rattle.fin_ast.specs.declared.tree.Index.{Index}
 use Rattle.fin_ast.specs.declared.tree.Expr.{Expr}
 use Rattle.fin_ast.specs.declared.tree.Expr.TheVariants as e
-use Rattle.fin_ast.specs.Scope.{Scope, holds_of, is_index, is_access, is_named_expr}
+use Rattle.fin_ast.specs.Scope.{Scope, holds_of, is_index, is_named_expr}
 use Rattle.fin_ast.specs.Value.{Numbers, Tensors, number, place, coordinates, value_in, read}
 use Rattle.fin_ast.specs.Value as language
 use Rattle.fin_ast.proofs.Values as meant
-use Rattle.fin_ir.specs.declared.expression.IExpr.TheVariants.{Num, Local, Neg, Two}
+use Rattle.fin_ir.specs.declared.expression.IExpr.TheVariants.{Num, Local, Neg}
 use Rattle.fin_ir.specs.Machine.{Tensor}
 use Rattle.fin_ir.specs.Value.{value_of}
 use Rattle.fin_ir.proofs.Values.{value_num, value_local, value_neg, value_two}
@@ -22,7 +22,7 @@ use Rattle.fin_stage.proofs.Alive.{left, right}
 use Rattle.fin_read.specs.Steps.{stepped, Agree}
 use Rattle.fin_read.specs.Reads.{read_steps}
 use Rattle.fin_read.specs.Values.{Heads, Lowered, format_of, shape_of, index_code, two_after, value_code}
-use Rattle.fin_read.specs.Sees.{Sees, SeesAll}
+use Rattle.fin_read.specs.Sees.{SeesAll}
 use Rattle.fin_read.specs.Means.{AreAt, IsRead, IsWithin, IsValued, ValuesMean}
 use Rattle.fin_read.proofs.ByKind.{Kinds, by_kind}
 use Rattle.fin_read.proofs.Equations.{lowered, code_num, code_var, code_read, code_neg, code_two, named_var, named_read, named_neg, named_two, reads_read, reads_neg, reads_two, small_read, small_neg, small_two, code_grows}

@@ -43,14 +43,8 @@ pub fn push_value(
     ensures code { OnOk result (into.new ≡ into.old ++ spec.prelude (spec.value_code (spec.heads_of heads.now.headers.now heads.now.shapes.now) e.now next)) }
 {
     match e {
-        Expr::Num(value) => Ok(Value {
-            expr: IExpr::Num(*value),
-            next,
-        }),
-        Expr::Var { var, line: _ } => Ok(Value {
-            expr: IExpr::Local(*var),
-            next,
-        }),
+        Expr::Num(value) => Ok(valued(IExpr::Num(*value), next)),
+        Expr::Var { var, line: _ } => Ok(valued(IExpr::Local(*var), next)),
         Expr::Read {
             tensor,
             at,
@@ -59,21 +53,22 @@ pub fn push_value(
         Expr::Neg(inner) => {
             let inner = push_value(alloc, into, heads, inner.get(), next)?;
             let expr = neg(alloc, inner.expr)?;
-            Ok(Value {
-                expr,
-                next: inner.next,
-            })
+            Ok(valued(expr, inner.next))
         }
         Expr::Two { op, left, right } => {
             let left = push_value(alloc, into, heads, left.get(), next)?;
             let right = push_value(alloc, into, heads, right.get(), left.next)?;
             let expr = two(alloc, *op, left.expr, right.expr)?;
-            Ok(Value {
-                expr,
-                next: right.next,
-            })
+            Ok(valued(expr, right.next))
         }
     }
+}
+
+fn valued(expr: IExpr, next: u32) -> Value
+    ensures expr { result.expr ≡ expr }
+    ensures next { result.next ≡ next }
+{
+    Value { expr, next }
 }
 
 // There is no memory for as many locals as a `u32` can't count.
