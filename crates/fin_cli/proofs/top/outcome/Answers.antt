@@ -16,6 +16,6 @@ returns-in-Gen-clause-comes g c =
     let job = job_of left [] in (
       job,
       subst (λ (b : Bool). Reads source b job (IsOk c.refused.result)) (sym (ap reads_job c.in-Gen.is)) (no_job source (IsOk c.refused.result) refl),
-      refuses_comes (record { rule = S2; line = 0 }) c.refused.result source _ (IsDueMode mode job) c.refused.ensures refl
-          (subst (λ (m : Mode). IsDueMode m job _) (sym c.in-Gen.is) refl),
+      refuses_comes (record { rule = S2; line = 0 }) c.refused.result source _ (IsDueMode c.args.asked.now.budget mode job) c.refused.ensures refl
+          (subst (λ (m : Mode). IsDueMode c.args.asked.now.budget m job _) (sym c.in-Gen.is) refl),
     )
