@@ -8,7 +8,7 @@ use Rattle.fin_engine.specs.declared.job.Job.{Job}
 use Rattle.fin_tensor.specs.declared.outputs.Outputs.{Outputs}
 use Rattle.fin_tensor.specs.declared.storage.Storage.{Storage}
 use Rattle.fin_base.specs.declared.refusal.Fail.{Fail}
-use Rattle.fin_base.specs.declared.refusal.Rule.TheVariants.{B2}
+use Rattle.fin_base.specs.declared.refusal.Rule.TheVariants.{B2, W1}
 use Rattle.fin_base.specs.declared.refusal.Fail.TheVariants as fails
 use Rattle.fin_ports.specs.Bytes.{most}
 use Rattle.fin_words.specs.declared.mode.Mode.{Mode}
@@ -16,10 +16,12 @@ use Rattle.fin_words.specs.declared.mode.Mode.TheVariants.{Run, Check, Plain, Ge
 use Rattle.fin_ast.specs.Dense.{function_of}
 use Rattle.fin_ast.specs.declared.checked.Checked.{Checked}
 use Rattle.fin_ast.specs.declared.header.Header.{Header}
-use Rattle.fin_dense.specs.Plain.{IsOver, IsPlain, Plains}
+use Rattle.fin_dense.specs.Plain.{AreStored, IsOver, IsPlain, Plains, outputs_from}
 use Rattle.fin_dense.proofs.OnePlain.{stored_below}
 use Rattle.fin_engine.specs.Verdict.{Accepts, Checks, IsJob}
-use Rattle.fin_cli.specs.Due.{Due, IsDueMode, IsDueOutput, IsDueRead, IsDueThen, done, outputs_text, refused}
+use Rattle.fin_stage.specs.Staged.{coordinate_work}
+use Rattle.fin_engine.specs.Run.{IsSpent}
+use Rattle.fin_cli.specs.Due.{Due, IsDueMode, IsDuePlain, IsDueRead, IsDueRun, IsDueThen, IsRun, due_outputs, outputs_text, refused}
 use Rattle.fin_cli.specs.Ends.{Across, Took}
 use Rattle.fin_cli.specs.Stops.{Comes, Fails, Refuses}
 use Rattle.fin_cli.specs.declared.outcome.Answer.{Answer}
@@ -36,26 +38,30 @@ refuses_comes refusal (Ok answer) source out Is h same is = (refused refusal.rul
 refuses_comes refusal (Err stop) source out Is h same is = subst (λ s. Comes source out Is (Err s)) (sym h) (inl (nothing out same))
 
 -- what is due for a job has status 0 or 1
-low_output : (text : List ℕ) (due : Due) → IsDueOutput text due → due.status ≤ 1
-low_output text due (IsDueOutput.over job h over) = omega arith
-low_output text due (IsDueOutput.whole job outputs h is) = omega arith
+low_run : (budget : ℕ) (text : List ℕ) (due : Due) → IsDueRun budget text due → due.status ≤ 1
+low_run budget text due (IsDueRun.over job h over) = omega arith
+low_run budget text due (IsDueRun.whole job outputs h is) = omega arith
 
-low_then : (mode : Mode) (job : List ℕ) (due : Due) → IsDueThen mode job due → due.status ≤ 1
-low_then Run job due h = low_output job due h
-low_then Check job due h = omega (arith, ap (λ d. d.status) h)
-low_then Plain job due h = low_output job due h
-low_then Gen job due h = omega (arith, ap (λ d. d.status) h)
+low_plain : (text : List ℕ) (due : Due) → IsDuePlain text due → due.status ≤ 1
+low_plain text due (IsDuePlain.over job h over) = omega arith
+low_plain text due (IsDuePlain.whole job outputs h is) = omega arith
 
-low_read : (mode : Mode) (job : List ℕ) (due : Due) → IsDueRead job (IsDueThen mode job) due → due.status ≤ 1
-low_read mode job due (IsDueRead.too_long many) = omega arith
-low_read mode job due (IsDueRead.breaks rule line few h) = omega arith
-low_read mode job due (IsDueRead.passes d few h next) = low_then mode job due next
+low_then : (budget : ℕ) (mode : Mode) (job : List ℕ) (due : Due) → IsDueThen budget mode job due → due.status ≤ 1
+low_then budget Run job due h = low_run budget job due h
+low_then budget Check job due h = omega (arith, ap (λ d. d.status) h)
+low_then budget Plain job due h = low_plain job due h
+low_then budget Gen job due h = omega (arith, ap (λ d. d.status) h)
 
-pub low_due : (mode : Mode) (job : List ℕ) (due : Due) → IsDueMode mode job due → due.status ≤ 1
-low_due Run job due h = low_read Run job due h
-low_due Check job due h = low_read Check job due h
-low_due Plain job due h = low_read Plain job due h
-low_due Gen job due h = omega (arith, ap (λ d. d.status) h)
+low_read : (budget : ℕ) (mode : Mode) (job : List ℕ) (due : Due) → IsDueRead job (IsDueThen budget mode job) due → due.status ≤ 1
+low_read budget mode job due (IsDueRead.too_long many) = omega arith
+low_read budget mode job due (IsDueRead.breaks rule line few h) = omega arith
+low_read budget mode job due (IsDueRead.passes d few h next) = low_then budget mode job due next
+
+pub low_due : (budget : ℕ) (mode : Mode) (job : List ℕ) (due : Due) → IsDueMode budget mode job due → due.status ≤ 1
+low_due budget Run job due h = low_read budget Run job due h
+low_due budget Check job due h = low_read budget Check job due h
+low_due budget Plain job due h = low_read budget Plain job due h
+low_due budget Gen job due h = omega (arith, ap (λ d. d.status) h)
 
 -- what comes then, comes of a job that breaks no rule
 pub comes_then : (job : List ℕ) (Next : Due → Type 0) (source out : Across) (r : Result Answer Stop) → length job ≤ most → Accepts job → Comes source out Next r → Comes source out (IsDueRead job Next) r
@@ -72,20 +78,33 @@ comes_failed job Next source out (fails.Memory e) r few breaks h same = subst (C
 
 -- a job whose evaluation is over its limits
 pub comes_over : (text : List ℕ) (job : Job) (inputs : List Storage) (source out : Across) (fail : Fail) (r : Result Answer Stop) → IsJob text job → inputs ≡ job.inputs
-    → Plains job.checked inputs (Err fail) → Fails fail r → out.after ≡ out.before → Comes source out (IsDueOutput text) r
+    → Plains job.checked inputs (Err fail) → Fails fail r → out.after ≡ out.before → Comes source out (IsDuePlain text) r
 comes_over text job inputs source out (fails.Refused refusal) r is given over h same =
-    refuses_comes (record { rule = B2; line = 0 }) r source out (IsDueOutput text) (subst (λ (x : Refusal). Refuses x r) over.0 h) same
-    (IsDueOutput.over job is (subst (IsOver job.checked) given over.1))
-comes_over text job inputs source out (fails.Memory e) r is given over h same = subst (Comes source out (IsDueOutput text)) (sym h) (inl (nothing out same))
+    refuses_comes (record { rule = B2; line = 0 }) r source out (IsDuePlain text) (subst (λ (x : Refusal). Refuses x r) over.0 h) same
+    (IsDuePlain.over job is (subst (IsOver job.checked) given over.1))
+comes_over text job inputs source out (fails.Memory e) r is given over h same = subst (Comes source out (IsDuePlain text)) (sym h) (inl (nothing out same))
 
--- what is due for a job with the outputs that were computed
-abbrev pub due_outputs : Job → Outputs → Due
-due_outputs job outputs = done (outputs_text job.checked.program.headers outputs.tensors)
+-- a job whose work is over the budget
+pub comes_spent : (budget : ℕ) (text : List ℕ) (job : Job) (source out : Across) (fail : Fail) (r : Result Answer Stop) → IsJob text job
+    → IsSpent job.checked job.inputs budget fail → Fails fail r → out.after ≡ out.before → Comes source out (IsDueRun budget text) r
+comes_spent budget text job source out (fails.Refused refusal) r is spent h same =
+    refuses_comes (record { rule = W1; line = 0 }) r source out (IsDueRun budget text) (subst (λ (x : Refusal). Refuses x r) spent.0 h) same
+    (IsDueRun.over job is spent.1)
+comes_spent budget text job source out (fails.Memory e) r is spent h same = subst (Comes source out (IsDueRun budget text)) (sym h) (inl (nothing out same))
 
--- it is due
-pub due_is : (text : List ℕ) (job : Job) (inputs : List Storage) (outputs : Outputs) → IsJob text job → inputs ≡ job.inputs → IsPlain job.checked inputs outputs
-    → IsDueOutput text (due_outputs job outputs)
-due_is text job inputs outputs is given plain = IsDueOutput.whole job outputs is (subst (λ (x : List Storage). IsPlain job.checked x outputs) given plain)
+-- ---- outputs that were computed
+
+-- what comes as one thing that is due, comes as what is due
+pub comes_as : (due : Due) (Is : Due → Type 0) (source out : Across) (r : Result Answer Stop) → Is due → Comes source out (λ (d : Due). d ≡ due) r → Comes source out Is r
+comes_as due Is source out (Ok answer) is (d, same, h) = (d, subst Is (sym same) is, h)
+comes_as due Is source out (Err ReadFault) is h = h
+comes_as due Is source out (Err WriteFault) is (failed, (d, same, h)) = (failed, (d, subst Is (sym same) is, h))
+comes_as due Is source out (Err Memory) is h = elim h [ inl empty ↦ inl empty | inr part ↦ inr (part.0, subst Is (sym part.1) is, part.2) ]
+
+-- the outputs of dense evaluation are due
+pub plain_is : (text : List ℕ) (job : Job) (inputs : List Storage) (outputs : Outputs) → IsJob text job → inputs ≡ job.inputs → IsPlain job.checked inputs outputs
+    → IsDuePlain text (due_outputs job outputs)
+plain_is text job inputs outputs is given plain = IsDuePlain.whole job outputs is (subst (λ (x : List Storage). IsPlain job.checked x outputs) given plain)
 
 -- the text that is written is the text that is due
 pub text_is : (job : Job) (outputs : Outputs) (headers : List Header) (written : List (ℕ × Storage)) → headers ≡ job.checked.program.headers → written ≡ outputs.tensors
@@ -93,10 +112,10 @@ pub text_is : (job : Job) (outputs : Outputs) (headers : List Header) (written :
 text_is job outputs headers written h o = ap₂ outputs_text h o
 
 -- the number of each output is that of a header
-pub are_named : (c : Checked) (inputs : List Storage) (outputs : Outputs) (headers : List Header) (written : List (ℕ × Storage)) → IsPlain c inputs outputs
+pub are_named : (c : Checked) (inputs : List Storage) (outputs : Outputs) (headers : List Header) (written : List (ℕ × Storage)) → AreStored (function_of c inputs) (outputs_from 0 c.program.headers) outputs.tensors
     → headers ≡ c.program.headers → written ≡ outputs.tensors → All (λ (output : ℕ × Storage). output.0 < length headers) written
 are_named c inputs outputs headers written is h o =
     let there : All (λ (output : ℕ × Storage). output.0 < length c.program.headers) outputs.tensors =
-    λ k d lt. omega (arith, stored_below (function_of c inputs) 0 c.program.headers outputs.tensors k d is.stored lt) in
+    λ k d lt. omega (arith, stored_below (function_of c inputs) 0 c.program.headers outputs.tensors k d is lt) in
     subst (λ (hs : List Header). All (λ (output : ℕ × Storage). output.0 < length hs) written) (sym h)
     (subst (All (λ (output : ℕ × Storage). output.0 < length c.program.headers)) (sym o) there)

@@ -10,29 +10,34 @@ use Rattle.fin_dense.specs.Plain.{IsPlain}
 use Rattle.fin_engine.specs.Verdict.{IsJob}
 use Rattle.fin_engine.specs.declared.job.Job.{Job}
 use Rattle.fin_tensor.specs.declared.outputs.Outputs.{Outputs}
-use Rattle.fin_cli.specs.Due.{Due, IsDue, IsDueMode, IsDueOutput, IsDueRead, IsDueThen, outputs_text, reads_job, unread}
+use Rattle.fin_cli.specs.Due.{Due, IsDue, IsDueMode, IsDuePlain, IsDueRead, IsDueRun, IsDueThen, outputs_text, reads_job, unread}
 use Rattle.fin_cli.specs.Ends.{Across, Serves, Took}
-use Rattle.fin_cli.specs.Promises.{Completes, HasCauses, IsSilent, IsUnasked, UsesExactly, WritesExactly}
+use Rattle.fin_cli.specs.Promises.{AreOutputs, Completes, HasCauses, IsSilent, IsUnasked, UsesExactly, WritesExactly}
 use Rattle.fin_cli.proofs.Comings.{low_due}
 use Rattle.fin_cli.proofs.OneDue.{one_due}
 
 -- where status 0 is due in a mode that writes outputs, they are those of a job
-record Written (text : List ℕ) (due : Due) : Type 0 where
+record Written (budget : ℕ) (mode : Mode) (text : List ℕ) (due : Due) : Type 0 where
   few : length text ≤ most
   job : Job
   stands : IsJob text job
   outputs : Outputs
-  plain : IsPlain job.checked job.inputs outputs
+  are : AreOutputs budget mode job outputs
   text_is : due.out ≡ outputs_text job.checked.program.headers outputs.tensors
 
-output_written : (text : List ℕ) (due : Due) → length text ≤ most → IsDueOutput text due → due.status ≡ 0 → Written text due
-output_written text due few (IsDueOutput.over job h over) zero = absurd (omega arith)
-output_written text due few (IsDueOutput.whole job outputs h is) zero = record { few = few; job = job; stands = h; outputs = outputs; plain = is; text_is = refl }
+run_written : (budget : ℕ) (text : List ℕ) (due : Due) → length text ≤ most → IsDueRun budget text due → due.status ≡ 0 → Written budget Run text due
+run_written budget text due few (IsDueRun.over job h over) zero = absurd (omega arith)
+run_written budget text due few (IsDueRun.whole job outputs h is) zero = record { few = few; job = job; stands = h; outputs = outputs; are = is; text_is = refl }
 
-read_written : (text : List ℕ) (due : Due) → IsDueRead text (IsDueOutput text) due → due.status ≡ 0 → Written text due
-read_written text due (IsDueRead.too_long many) zero = absurd (omega arith)
-read_written text due (IsDueRead.breaks rule line few h) zero = absurd (omega arith)
-read_written text due (IsDueRead.passes d few a next) zero = output_written text due few next zero
+plain_written : (budget : ℕ) (text : List ℕ) (due : Due) → length text ≤ most → IsDuePlain text due → due.status ≡ 0 → Written budget Plain text due
+plain_written budget text due few (IsDuePlain.over job h over) zero = absurd (omega arith)
+plain_written budget text due few (IsDuePlain.whole job outputs h is) zero = record { few = few; job = job; stands = h; outputs = outputs; are = is; text_is = refl }
+
+read_written : (budget : ℕ) (mode : Mode) (text : List ℕ) (Next : Due → Type 0) (due : Due) → ((d : Due) → length text ≤ most → Next d → d.status ≡ 0 → Written budget mode text d)
+    → IsDueRead text Next due → due.status ≡ 0 → Written budget mode text due
+read_written budget mode text Next due then (IsDueRead.too_long many) zero = absurd (omega arith)
+read_written budget mode text Next due then (IsDueRead.breaks rule line few h) zero = absurd (omega arith)
+read_written budget mode text Next due then (IsDueRead.passes d few a next) zero = then due few next zero
 
 abbrev pub writes_outputs : Mode → Bool
 writes_outputs Run = true
@@ -40,11 +45,11 @@ writes_outputs Check = false
 writes_outputs Plain = true
 writes_outputs Gen = false
 
-mode_written : (mode : Mode) (text : List ℕ) (due : Due) → writes_outputs mode ≡ true → IsDueMode mode text due → due.status ≡ 0 → Written text due
-mode_written Run text due e is zero = read_written text due is zero
-mode_written Check text due e is zero = cc
-mode_written Plain text due e is zero = read_written text due is zero
-mode_written Gen text due e is zero = cc
+mode_written : (budget : ℕ) (mode : Mode) (text : List ℕ) (due : Due) → writes_outputs mode ≡ true → IsDueMode budget mode text due → due.status ≡ 0 → Written budget mode text due
+mode_written budget Run text due e is zero = read_written budget Run text (IsDueRun budget text) due (λ d few h z. run_written budget text d few h z) is zero
+mode_written budget Check text due e is zero = cc
+mode_written budget Plain text due e is zero = read_written budget Plain text (IsDuePlain text) due (λ d few h z. plain_written budget text d few h z) is zero
+mode_written budget Gen text due e is zero = cc
 
 read_where_written : (mode : Mode) → writes_outputs mode ≡ true → reads_job mode ≡ true
 read_where_written Run e = refl
@@ -62,9 +67,10 @@ writes_exactly mode (Some asked) source out err status writes (text, reads, ends
     let same : asked ≡ a = cc in
     let in_mode : asked.mode ≡ mode = ap (λ x. x.mode) same ∙ asks in
     let here : writes_outputs asked.mode ≡ true = ap writes_outputs in_mode ∙ writes in
-    let w = mode_written asked.mode text due here f.1 due_zero in
+    let w = mode_written asked.budget asked.mode text due here f.1 due_zero in
     let whole = reads.whole (read_where_written asked.mode here) small w.few in
-    (text, reads.told, whole.0, whole.1, w.job, w.stands, w.outputs, w.plain, subst (Took out) w.text_is f.2.1)
+    let are : AreOutputs a.budget mode w.job w.outputs = subst (λ (m : Mode). AreOutputs a.budget m w.job w.outputs) in_mode (subst (λ (x : Asked). AreOutputs x.budget asked.mode w.job w.outputs) same w.are) in
+    (text, reads.told, whole.0, whole.1, w.job, w.stands, w.outputs, are, subst (Took out) w.text_is f.2.1)
 
 told_is : (before : Option (List ℕ)) (job x : List ℕ) → before ≡ Some job → IfSome before (λ bytes. x ≡ bytes) → x ≡ job
 told_is None job x e h = cc
@@ -106,7 +112,7 @@ has_causes asked source out err status (job, reads, ends) = (λ three. (ends.rea
 
 usage_due : (asked : Option Asked) (job : List ℕ) (due : Due) → IsDue asked job due → due.status ≡ 2 → (asked ≡ None) × (due ≡ unread)
 usage_due None job due is two = (refl, is)
-usage_due (Some asked) job due is two = absurd (omega (arith, low_due asked.mode job due is))
+usage_due (Some asked) job due is two = absurd (omega (arith, low_due asked.budget asked.mode job due is))
 
 unread_job : (asked : Option Asked) → asked ≡ None → Rattle.fin_cli.specs.Due.reads asked ≡ false
 unread_job None e = refl
@@ -121,30 +127,34 @@ uses_exactly asked source out err status (job, reads, ends) unasked = (
   unasked,
 )
 
-output_silent : (text : List ℕ) (due : Due) → IsDueOutput text due → 1 ≤ due.status → due.out ≡ []
-output_silent text due (IsDueOutput.over job h over) some = refl
-output_silent text due (IsDueOutput.whole job outputs h is) some = absurd (omega arith)
+run_silent : (budget : ℕ) (text : List ℕ) (due : Due) → IsDueRun budget text due → 1 ≤ due.status → due.out ≡ []
+run_silent budget text due (IsDueRun.over job h over) some = refl
+run_silent budget text due (IsDueRun.whole job outputs h is) some = absurd (omega arith)
 
-then_silent : (mode : Mode) (job : List ℕ) (due : Due) → IsDueThen mode job due → 1 ≤ due.status → due.out ≡ []
-then_silent Run job due h some = output_silent job due h some
-then_silent Check job due h some = absurd (omega (arith, ap (λ d. d.status) h))
-then_silent Plain job due h some = output_silent job due h some
-then_silent Gen job due h some = ap (λ d. d.out) h
+plain_silent : (text : List ℕ) (due : Due) → IsDuePlain text due → 1 ≤ due.status → due.out ≡ []
+plain_silent text due (IsDuePlain.over job h over) some = refl
+plain_silent text due (IsDuePlain.whole job outputs h is) some = absurd (omega arith)
 
-read_silent : (mode : Mode) (job : List ℕ) (due : Due) → IsDueRead job (IsDueThen mode job) due → 1 ≤ due.status → due.out ≡ []
-read_silent mode job due (IsDueRead.too_long many) some = refl
-read_silent mode job due (IsDueRead.breaks rule line few h) some = refl
-read_silent mode job due (IsDueRead.passes d few h next) some = then_silent mode job due next some
+then_silent : (budget : ℕ) (mode : Mode) (job : List ℕ) (due : Due) → IsDueThen budget mode job due → 1 ≤ due.status → due.out ≡ []
+then_silent budget Run job due h some = run_silent budget job due h some
+then_silent budget Check job due h some = absurd (omega (arith, ap (λ d. d.status) h))
+then_silent budget Plain job due h some = plain_silent job due h some
+then_silent budget Gen job due h some = ap (λ d. d.out) h
 
-mode_silent : (mode : Mode) (job : List ℕ) (due : Due) → IsDueMode mode job due → 1 ≤ due.status → due.out ≡ []
-mode_silent Run job due h some = read_silent Run job due h some
-mode_silent Check job due h some = read_silent Check job due h some
-mode_silent Plain job due h some = read_silent Plain job due h some
-mode_silent Gen job due h some = ap (λ d. d.out) h
+read_silent : (budget : ℕ) (mode : Mode) (job : List ℕ) (due : Due) → IsDueRead job (IsDueThen budget mode job) due → 1 ≤ due.status → due.out ≡ []
+read_silent budget mode job due (IsDueRead.too_long many) some = refl
+read_silent budget mode job due (IsDueRead.breaks rule line few h) some = refl
+read_silent budget mode job due (IsDueRead.passes d few h next) some = then_silent budget mode job due next some
+
+mode_silent : (budget : ℕ) (mode : Mode) (job : List ℕ) (due : Due) → IsDueMode budget mode job due → 1 ≤ due.status → due.out ≡ []
+mode_silent budget Run job due h some = read_silent budget Run job due h some
+mode_silent budget Check job due h some = read_silent budget Check job due h some
+mode_silent budget Plain job due h some = read_silent budget Plain job due h some
+mode_silent budget Gen job due h some = ap (λ d. d.out) h
 
 silent_due : (asked : Option Asked) (job : List ℕ) (due : Due) → IsDue asked job due → 1 ≤ due.status → due.out ≡ []
 silent_due None job due h some = ap (λ d. d.out) h
-silent_due (Some asked) job due h some = mode_silent asked.mode job due h some
+silent_due (Some asked) job due h some = mode_silent asked.budget asked.mode job due h some
 
 pub is_silent : (asked : Option Asked) (source out err : Across) (status : ℕ) → Serves asked source out err status → IsSilent out status
 is_silent asked source out err status (job, reads, ends) some few = elim (cases_eq status 3) [

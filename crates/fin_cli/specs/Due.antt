@@ -9,7 +9,10 @@ use Rattle.fin_words.specs.declared.mode.Asked.{Asked}
 use Rattle.fin_words.specs.declared.mode.Mode.{Mode}
 use Rattle.fin_words.specs.declared.mode.Mode.TheVariants.{Run, Check, Plain, Gen}
 use Rattle.fin_ast.specs.declared.header.Header.{Header}
-use Rattle.fin_dense.specs.Plain.{IsOver, IsPlain}
+use Rattle.fin_ast.specs.declared.checked.Checked.{Checked}
+use Rattle.fin_ast.specs.Dense.{function_of}
+use Rattle.fin_dense.specs.Plain.{AreStored, IsOver, IsPlain, outputs_from}
+use Rattle.fin_stage.specs.Staged.{coordinate_work}
 use Rattle.fin_engine.specs.Verdict.{Accepts, Breaks, IsJob}
 use Rattle.fin_engine.specs.declared.job.Job.{Job}
 use Rattle.fin_tensor.specs.declared.outputs.Outputs.{Outputs}
@@ -106,11 +109,24 @@ refused rule line = record { status = 1; out = []; err = refusal_text (record { 
 abbrev pub unread : Due
 unread = record { status = 2; out = []; err = usage }
 
--- what is due for the outputs of a job that breaks none of the rules so far: B2 where dense evaluation is over its limits, else
--- the text of each output, in canonical storage, of what it gives
-pub data IsDueOutput (text : List ℕ) : Due → Type 0 where
-  over : (job : Job) → IsJob text job → IsOver job.checked job.inputs → IsDueOutput text (refused B2 0)
-  whole : (job : Job) (outputs : Outputs) → IsJob text job → IsPlain job.checked job.inputs outputs → IsDueOutput text (done (outputs_text job.checked.program.headers outputs.tensors))
+abbrev pub due_outputs : Job → Outputs → Due
+due_outputs job outputs = done (outputs_text job.checked.program.headers outputs.tensors)
+
+-- the work of a program is within the budget, and these are the canonical storages of what dense evaluation gives
+pub record IsRun (c : Checked) (inputs : List Storage) (budget : ℕ) (outputs : Outputs) : Type 0 where
+  pub within : coordinate_work c inputs ≤ budget
+  pub stored : AreStored (function_of c inputs) (outputs_from 0 c.program.headers) outputs.tensors
+
+-- what is due for the run of a job that breaks none of the rules before: W1 where its work is over the budget, else the text
+-- of each output
+pub data IsDueRun (budget : ℕ) (text : List ℕ) : Due → Type 0 where
+  over : (job : Job) → IsJob text job → budget < coordinate_work job.checked job.inputs → IsDueRun budget text (refused W1 0)
+  whole : (job : Job) (outputs : Outputs) → IsJob text job → IsRun job.checked job.inputs budget outputs → IsDueRun budget text (due_outputs job outputs)
+
+-- the same for dense evaluation: B2 where it is over its limits
+pub data IsDuePlain (text : List ℕ) : Due → Type 0 where
+  over : (job : Job) → IsJob text job → IsOver job.checked job.inputs → IsDuePlain text (refused B2 0)
+  whole : (job : Job) (outputs : Outputs) → IsJob text job → IsPlain job.checked job.inputs outputs → IsDuePlain text (due_outputs job outputs)
 
 -- what is due for a job that is read: its first breach, or else what is due then
 pub data IsDueRead (job : List ℕ) (Next : Due → Type 0) : Due → Type 0 where
@@ -118,12 +134,12 @@ pub data IsDueRead (job : List ℕ) (Next : Due → Type 0) : Due → Type 0 whe
   breaks : (rule : Rule) (line : ℕ) → length job ≤ most → Breaks job rule line → IsDueRead job Next (refused rule line)
   passes : (due : Due) → length job ≤ most → Accepts job → Next due → IsDueRead job Next due
 
--- what is due then, by the mode
-abbrev pub IsDueThen : Mode → List ℕ → Due → Type 0
-IsDueThen Run job due = IsDueOutput job due
-IsDueThen Check job due = due ≡ done (line (codes "ok"))
-IsDueThen Plain job due = IsDueOutput job due
-IsDueThen Gen job due = due ≡ refused S2 0
+-- what is due then, by the budget and the mode
+abbrev pub IsDueThen : ℕ → Mode → List ℕ → Due → Type 0
+IsDueThen budget Run job due = IsDueRun budget job due
+IsDueThen budget Check job due = due ≡ done (line (codes "ok"))
+IsDueThen budget Plain job due = IsDuePlain job due
+IsDueThen budget Gen job due = due ≡ refused S2 0
 
 -- a job is read, but for `gen`
 abbrev pub reads_job : Mode → Bool
@@ -131,14 +147,14 @@ reads_job Gen = false
 reads_job mode = true
 
 -- what is due in a mode; jobs aren't generated yet
-abbrev pub IsDueMode : Mode → List ℕ → Due → Type 0
-IsDueMode Gen job due = due ≡ refused S2 0
-IsDueMode mode job due = IsDueRead job (IsDueThen mode job) due
+abbrev pub IsDueMode : ℕ → Mode → List ℕ → Due → Type 0
+IsDueMode budget Gen job due = due ≡ refused S2 0
+IsDueMode budget mode job due = IsDueRead job (IsDueThen budget mode job) due
 
 -- what is due for what the words ask, with these bytes on the source; words without a reading have the usage line
 abbrev pub IsDue : Option Asked → List ℕ → Due → Type 0
 IsDue None job due = due ≡ unread
-IsDue (Some asked) job due = IsDueMode asked.mode job due
+IsDue (Some asked) job due = IsDueMode asked.budget asked.mode job due
 
 abbrev pub reads : Option Asked → Bool
 reads None = false

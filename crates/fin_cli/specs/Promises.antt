@@ -4,19 +4,28 @@ use Rattle.std.specs.Io.KnownBytes.{Consumes, IsAtEnd, Keeps}
 use Rattle.std.specs.declared.option.Option.{Option}
 use Rattle.fin_words.specs.declared.mode.Asked.{Asked}
 use Rattle.fin_words.specs.declared.mode.Mode.{Mode}
+use Rattle.fin_words.specs.declared.mode.Mode.TheVariants.{Run, Check, Plain, Gen}
 use Rattle.fin_dense.specs.Plain.{IsPlain}
 use Rattle.fin_engine.specs.Verdict.{IsJob}
 use Rattle.fin_engine.specs.declared.job.Job.{Job}
 use Rattle.fin_tensor.specs.declared.outputs.Outputs.{Outputs}
-use Rattle.fin_cli.specs.Due.{Due, IsDue, outputs_text, usage}
+use Rattle.fin_cli.specs.Due.{Due, IsDue, IsRun, outputs_text, usage}
 use Rattle.fin_cli.specs.Ends.{Across, Failed, Took}
+
+-- The outputs of a job in a mode that writes some: the canonical storages of the functions that dense evaluation gives. In `run`
+-- the work is within the budget, in `plain` few loop turns are made.
+abbrev pub AreOutputs : ℕ → Mode → Job → Outputs → Type 0
+AreOutputs budget Run job outputs = IsRun job.checked job.inputs budget outputs
+AreOutputs budget Plain job outputs = IsPlain job.checked job.inputs outputs
+AreOutputs budget Check job outputs = ⊥
+AreOutputs budget Gen job outputs = ⊥
 
 -- In this mode, status 0: the source was read to its end, and the output took exactly, for the job whose text it had left, the
 -- text of each output in the order of headers, which is that of the canonical storage of the function that dense evaluation gives.
 abbrev pub WritesExactly : Mode → Option Asked → Across → Across → ℕ → Type 0
 WritesExactly mode asked source out status = (a : Asked) → asked ≡ Some a → a.mode ≡ mode → status ≡ 0 →
     (text : List ℕ) × IfSome source.before (λ bytes. text ≡ bytes) × Consumes source.before source.after text × IsAtEnd source.after
-    × (job : Job) × IsJob text job × (outputs : Outputs) × IsPlain job.checked job.inputs outputs
+    × (job : Job) × IsJob text job × (outputs : Outputs) × AreOutputs a.budget mode job outputs
     × Took out (outputs_text job.checked.program.headers outputs.tensors)
 
 -- Where no count of faults rose, the call ends as it is due for the bytes that the source had left, or by want of memory.

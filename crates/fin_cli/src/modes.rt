@@ -1,9 +1,12 @@
 //! The modes, over the bytes of a job.
-ghost use Rattle.std.specs.Prelude.{◌≡◌, ◌≢◌, ◌≤◌, ℕ, List, length};
+ghost use Rattle.std.specs.Prelude.{◌≡◌, ◌≢◌, ◌≤◌, ◌^◌, ℕ, List, length};
+ghost use Rattle.fin_ast.specs.Accepted.{FitProgram, IsAccepted};
+ghost use Rattle.fin_ast.specs.Dense.{function_of};
 ghost use Rattle.fin_ast.specs.Shaped.{FitHeaders};
+ghost use Rattle.fin_dense.specs.Plain.{AreStored, outputs_from};
 ghost use Rattle.fin_ports.specs.Bytes.{most};
 ghost use Rattle.fin_engine.specs.Verdict.{IsJob};
-ghost use Rattle.fin_cli.specs.Due.{IsDueOutput, IsDueRead, IsDueThen, refusal_text};
+ghost use Rattle.fin_cli.specs.Due.{Due, IsDuePlain, IsDueRead, IsDueRun, IsDueThen, due_outputs, refusal_text};
 ghost use Rattle.fin_cli.specs.Ends.{Across, across};
 ghost use Rattle.fin_cli.specs.Stops.{Comes, Fails, Refuses};
 
@@ -12,9 +15,10 @@ use crate::outcome::{Answer, Stop};
 use crate::outputs::write_outputs;
 use fin_base::{Fail, Refusal};
 use fin_dense::plain;
-use fin_engine::{Job, check};
+use fin_engine::{Job, check, run_job_one};
 use fin_ports::{Failed, Sink, put_all};
 use fin_text::WriteFail;
+use fin_tensor::Outputs;
 use fin_words::Mode;
 use std::alloc::Global;
 
@@ -22,12 +26,14 @@ use std::alloc::Global;
 pub(crate) fn serve_job<O: Sink>(
     alloc: Global,
     mode: Mode,
+    budget: u64,
     text: Vec<u8>,
     out: &mut O,
 ) -> Result<Answer, Stop>
     requires job { length text.items ≤ most }
     requires mode { mode ≢ Mode.Gen }
-    ensures comes { (source : Across) → Comes source (across (O.taken out.old) (O.taken out.new) (O.faults out.old) (O.faults out.new)) (IsDueRead text.items (IsDueThen mode text.items)) result }
+    requires budget { budget ≤ 2 ^ 40 }
+    ensures comes { (source : Across) → Comes source (across (O.taken out.old) (O.taken out.new) (O.faults out.old) (O.faults out.new)) (IsDueRead text.items (IsDueThen budget mode text.items)) result }
     ensures later { O.Later out.old out.new }
 {
     let checked = check(alloc, &text);
@@ -36,38 +42,70 @@ pub(crate) fn serve_job<O: Sink>(
         Ok(job) => job,
         Err(fail) => return failed(alloc, fail),
     };
-    serve_accepted(alloc, mode, &job, out)
+    serve_accepted(alloc, mode, budget, &job, out)
 }
 
 // The same for a job that breaks none of the rules.
 fn serve_accepted<O: Sink>(
     alloc: Global,
     mode: Mode,
+    budget: u64,
     job: &Job,
     out: &mut O,
 ) -> Result<Answer, Stop>
     requires mode { mode ≢ Mode.Gen }
+    requires budget { budget ≤ 2 ^ 40 }
     requires fits { FitHeaders job.now.checked.program.headers job.now.checked.dims }
-    ensures comes { (source : Across) (text : List ℕ) → IsJob text job.now → Comes source (across (O.taken out.old) (O.taken out.new) (O.faults out.old) (O.faults out.new)) (IsDueThen mode text) result }
+    requires accepted { IsAccepted job.now.checked }
+    requires inputs { FitProgram job.now.checked job.now.inputs }
+    ensures comes { (source : Across) (text : List ℕ) → IsJob text job.now → Comes source (across (O.taken out.old) (O.taken out.new) (O.faults out.old) (O.faults out.new)) (IsDueThen budget mode text) result }
     ensures later { O.Later out.old out.new }
 {
     match mode {
-        Mode::Run | Mode::Plain => evaluate(alloc, job, out),
+        Mode::Run => run(alloc, job, budget, out),
+        Mode::Plain => evaluate(alloc, job, out),
         Mode::Check => accept(alloc, out),
         Mode::Gen => unreachable!(),
     }
 }
 
-// Evaluates a job and writes its outputs.
-fn evaluate<O: Sink>(alloc: Global, job: &Job, out: &mut O) -> Result<Answer, Stop>
-    requires fits { FitHeaders job.now.checked.program.headers job.now.checked.dims }
-    ensures comes { (source : Across) (text : List ℕ) → IsJob text job.now → Comes source (across (O.taken out.old) (O.taken out.new) (O.faults out.old) (O.faults out.new)) (IsDueOutput text) result }
+// Runs a job by its loop code and writes its outputs.
+fn run<O: Sink>(alloc: Global, job: &Job, budget: u64, out: &mut O) -> Result<Answer, Stop>
+    requires budget { budget ≤ 2 ^ 40 }
+    requires accepted { IsAccepted job.now.checked }
+    requires inputs { FitProgram job.now.checked job.now.inputs }
+    ensures comes { (source : Across) (text : List ℕ) → IsJob text job.now → Comes source (across (O.taken out.old) (O.taken out.new) (O.faults out.old) (O.faults out.new)) (IsDueRun budget text) result }
     ensures later { O.Later out.old out.new }
 {
-    let outputs = match plain(alloc, &job.checked, job.inputs.as_slice()) {
-        Ok(outputs) => outputs,
-        Err(over) => return failed(alloc, over),
-    };
+    match run_job_one(alloc, job, budget) {
+        Ok(done) => write(alloc, job, &done.outputs, out),
+        Err(spent) => failed(alloc, spent),
+    }
+}
+
+// Evaluates a job coordinate by coordinate and writes its outputs.
+fn evaluate<O: Sink>(alloc: Global, job: &Job, out: &mut O) -> Result<Answer, Stop>
+    requires fits { FitHeaders job.now.checked.program.headers job.now.checked.dims }
+    ensures comes { (source : Across) (text : List ℕ) → IsJob text job.now → Comes source (across (O.taken out.old) (O.taken out.new) (O.faults out.old) (O.faults out.new)) (IsDuePlain text) result }
+    ensures later { O.Later out.old out.new }
+{
+    match plain(alloc, &job.checked, job.inputs.as_slice()) {
+        Ok(outputs) => write(alloc, job, &outputs, out),
+        Err(over) => failed(alloc, over),
+    }
+}
+
+// Writes the outputs of a job.
+fn write<O: Sink>(
+    alloc: Global,
+    job: &Job,
+    outputs: &Outputs,
+    out: &mut O,
+) -> Result<Answer, Stop>
+    requires stored { AreStored (function_of job.now.checked job.now.inputs) (outputs_from 0 job.now.checked.program.headers) outputs.now.tensors }
+    ensures comes { (source : Across) → Comes source (across (O.taken out.old) (O.taken out.new) (O.faults out.old) (O.faults out.new)) (λ (due : Due). due ≡ due_outputs job.now outputs.now) result }
+    ensures later { O.Later out.old out.new }
+{
     let headers = job.checked.program.headers.as_slice();
     match write_outputs(alloc, headers, outputs.tensors.as_slice(), out) {
         Ok(()) => Ok(Answer {
@@ -81,7 +119,7 @@ fn evaluate<O: Sink>(alloc: Global, job: &Job, out: &mut O) -> Result<Answer, St
 
 // Says that a job breaks no rule.
 fn accept<O: Sink>(alloc: Global, out: &mut O) -> Result<Answer, Stop>
-    ensures comes { (source : Across) (job : List ℕ) → Comes source (across (O.taken out.old) (O.taken out.new) (O.faults out.old) (O.faults out.new)) (IsDueThen Mode.Check job) result }
+    ensures comes { (source : Across) (job : List ℕ) → Comes source (across (O.taken out.old) (O.taken out.new) (O.faults out.old) (O.faults out.new)) (IsDueThen 0 Mode.Check job) result }
     ensures later { O.Later out.old out.new }
 {
     match put_all(out, b"ok\n") {

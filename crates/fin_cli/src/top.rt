@@ -170,9 +170,9 @@ fn serve<S: Source, O: Sink, E: Sink>(
 
 // The status of an outcome, with its line on the error output.
 fn report<E: Sink>(outcome: Result<Answer, Stop>, err: &mut E) -> u8
-    ensures ends { (source out : Across) (mode : Mode) (job : List ℕ) → Comes source out (IsDueMode mode job) outcome
-        → Ends source out (across (E.taken err.old) (E.taken err.new) (E.faults err.old) (E.faults err.new)) (IsDueMode mode job) result }
-    ensures finished { (source out : Across) (mode : Mode) (job : List ℕ) → Comes source out (IsDueMode mode job) outcome → result ≤ 2 → IsOk outcome }
+    ensures ends { (source out : Across) (budget : ℕ) (mode : Mode) (job : List ℕ) → Comes source out (IsDueMode budget mode job) outcome
+        → Ends source out (across (E.taken err.old) (E.taken err.new) (E.faults err.old) (E.faults err.new)) (IsDueMode budget mode job) result }
+    ensures finished { (source out : Across) (budget : ℕ) (mode : Mode) (job : List ℕ) → Comes source out (IsDueMode budget mode job) outcome → result ≤ 2 → IsOk outcome }
     ensures later { E.Later err.old err.new }
 {
     match outcome {
@@ -183,8 +183,8 @@ fn report<E: Sink>(outcome: Result<Answer, Stop>, err: &mut E) -> u8
 
 // The same where there is no answer.
 fn report_stop<E: Sink>(stop: Stop, err: &mut E) -> u8
-    ensures ends { (source out : Across) (mode : Mode) (job : List ℕ) → Comes source out (IsDueMode mode job) (Err stop)
-        → Ends source out (across (E.taken err.old) (E.taken err.new) (E.faults err.old) (E.faults err.new)) (IsDueMode mode job) result }
+    ensures ends { (source out : Across) (budget : ℕ) (mode : Mode) (job : List ℕ) → Comes source out (IsDueMode budget mode job) (Err stop)
+        → Ends source out (across (E.taken err.old) (E.taken err.new) (E.faults err.old) (E.faults err.new)) (IsDueMode budget mode job) result }
     ensures unfinished { 3 ≤ result }
     ensures later { E.Later err.old err.new }
 {
@@ -208,9 +208,10 @@ fn outcome<S: Source, O: Sink>(
     source: &mut S,
     out: &mut O,
 ) -> Result<Answer, Stop>
+    requires budget { asked.now.budget ≤ 2 ^ 40 }
     ensures comes { let from = across (S.left source.old) (S.left source.new) (S.faults source.old) (S.faults source.new) in
         (job : List ℕ) × Reads from (reads_job asked.now.mode) job (IsOk result)
-        × Comes from (across (O.taken out.old) (O.taken out.new) (O.faults out.old) (O.faults out.new)) (IsDueMode asked.now.mode job) result }
+        × Comes from (across (O.taken out.old) (O.taken out.new) (O.faults out.old) (O.faults out.new)) (IsDueMode asked.now.budget asked.now.mode job) result }
     ensures later_source { S.Later source.old source.new }
     ensures later_out { O.Later out.old out.new }
 {
@@ -222,7 +223,7 @@ fn outcome<S: Source, O: Sink>(
                 line: 0,
             },
         ),
-        mode => read_and_serve(alloc, mode, source, out),
+        mode => read_and_serve(alloc, mode, asked.budget, source, out),
     }
 }
 
@@ -230,18 +231,20 @@ fn outcome<S: Source, O: Sink>(
 fn read_and_serve<S: Source, O: Sink>(
     alloc: Global,
     mode: Mode,
+    budget: u64,
     source: &mut S,
     out: &mut O,
 ) -> Result<Answer, Stop>
-    requires { mode ≢ Mode.Gen }
+    requires mode { mode ≢ Mode.Gen }
+    requires budget { budget ≤ 2 ^ 40 }
     ensures comes { let from = across (S.left source.old) (S.left source.new) (S.faults source.old) (S.faults source.new) in
         (job : List ℕ) × Reads from true job (IsOk result)
-        × Comes from (across (O.taken out.old) (O.taken out.new) (O.faults out.old) (O.faults out.new)) (IsDueRead job (IsDueThen mode job)) result }
+        × Comes from (across (O.taken out.old) (O.taken out.new) (O.faults out.old) (O.faults out.new)) (IsDueRead job (IsDueThen budget mode job)) result }
     ensures later_source { S.Later source.old source.new }
     ensures later_out { O.Later out.old out.new }
 {
     match read_job(alloc, source) {
-        Ok(job) => serve_job(alloc, mode, job, out),
+        Ok(job) => serve_job(alloc, mode, budget, job, out),
         Err(JobRead::TooLong) => refused(
             alloc,
             Refusal {

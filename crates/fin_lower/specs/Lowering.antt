@@ -1,6 +1,6 @@
 -- The code of statements. A variable has the local of its number; the other locals are free from `next` on, and a
 -- statement leaves each local before it as it was. Each turn of a loop and each statement pays its coordinate work.
-use Rattle.std.specs.Prelude.{ℕ, ◌+◌, List, [], ◌∷◌, ◌++◌, map, slice_index_or, ℤ, pos}
+use Rattle.std.specs.Prelude.{ℕ, ◌+◌, List, [], ◌∷◌, ◌++◌, map, slice_index_or, pos}
 use Rattle.fin_base.specs.declared.reduce.Reduce.{Reduce}
 use Rattle.fin_ast.specs.declared.header.Header.{Header}
 use Rattle.fin_ast.specs.declared.tree.Index.{Index}

@@ -1,5 +1,5 @@
 -- The plan of a program: its code, its tensors, and as many locals as the code needs.
-use Rattle.std.specs.Prelude.{ℕ, List, map, length}
+use Rattle.std.specs.Prelude.{ℕ, map, length}
 use Rattle.fin_ast.specs.declared.header.Header.{Header}
 use Rattle.fin_ast.specs.declared.header.Kind.{Kind}
 use Rattle.fin_ast.specs.declared.header.Kind.TheVariants.{Input, Output, Local}

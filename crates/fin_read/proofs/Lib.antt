@@ -1,0 +1,13 @@
+pub mod Stepping
+pub mod Placing
+pub mod Descending
+pub mod Remaining
+pub mod Reading
+pub mod Counting
+pub mod Fronts
+pub mod ByKind
+pub mod Equations
+pub mod Following
+pub mod Indexing
+pub mod Valuing
+pub mod Naming

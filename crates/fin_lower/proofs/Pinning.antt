@@ -1,0 +1,148 @@
+-- A machine that does what a run does, where its locals change.
+use Rattle.std.proofs.Common.{◌≡◌, ◌≢◌, ℕ, suc, ◌<◌, ◌≤◌, ◌+◌, ◌⊎◌, inl, inr, ⊎_elim, Bool, true, false, List, [], ◌∷◌, ◌++◌, length, length-set, get_or-set_same, get_or-set_other, refl, sym, ap, ◌∙◌, subst, ℤ, pos, arith}
+use Rattle.std.specs.Prelude.{slice_index_or, slice_set, if◌then◌else◌}
+use Rattle.std.proofs.lemmas.Bool.{cases_eq}
+use Rattle.std.proofs.lemmas.List.{get_or_append_left, length-append}
+use Rattle.std.proofs.Math.Seq.{get_or-append_seam}
+use Rattle.fin_tensor.specs.declared.storage.Storage.{Storage}
+use Rattle.fin_ast.specs.declared.checked.Checked.{Checked}
+use Rattle.fin_ast.specs.Dense.{setting_of}
+use Rattle.fin_ir.specs.Machine.{Tensor, held, Machine, live, assign, charge}
+use Rattle.fin_ir.specs.Meaning.{Action}
+use Rattle.fin_stage.specs.Stages.{Stage, Absent, Built, Frozen, stage_at, kept}
+use Rattle.fin_stage.specs.Staged.{Run, worked, closed}
+use Rattle.fin_stage.specs.Fitting.{StageFits}
+use Rattle.fin_stage.proofs.Fits.{kept_cases}
+use Rattle.fin_stage.proofs.Onward.{Onward}
+use Rattle.fin_read.specs.Steps.{Agree}
+use Rattle.fin_lower.specs.Plans.{layout_of}
+use Rattle.fin_lower.proofs.Related.{Stand, Live, Over, Related}
+use Rattle.fin_lower.proofs.Still.{Stills}
+
+-- ---- lists of locals
+
+abbrev pub at : List ℤ → ℕ → ℤ
+at ls k = slice_index_or ls k (pos 0)
+
+-- the same local is set in both
+pub agree_set : (n : ℕ) (ks ls : List ℤ) (local : ℕ) (v : ℤ) → local < length ks → local < length ls → Agree n ks ls → Agree n (slice_set ks local v) (slice_set ls local v)
+agree_set n ks ls local v hk hl a k lt = ⊎_elim
+    (λ (e : k ≡ local). ap (at (slice_set ks local v)) e ∙ get_or-set_same ks local v (pos 0) hk ∙ sym (ap (at (slice_set ls local v)) e ∙ get_or-set_same ls local v (pos 0) hl))
+    (λ (ne : k ≢ local). get_or-set_other ks local k v (pos 0) ne ∙ a k lt ∙ sym (get_or-set_other ls local k v (pos 0) ne))
+    (cases_eq k local)
+
+-- one more of them
+pub agree_more : (ks ps : List ℤ) (v : ℤ) → length ps < length ks → Agree (length ps) ks ps → Agree (length (ps ++ v ∷ [])) (slice_set ks (length ps) v) (ps ++ v ∷ [])
+agree_more ks ps v h a k lt = ⊎_elim
+    (λ (e : k ≡ length ps). ap (at (slice_set ks (length ps) v)) e ∙ get_or-set_same ks (length ps) v (pos 0) h ∙ sym (ap (at (ps ++ v ∷ [])) e ∙ get_or-append_seam ps v [] (pos 0)))
+    (λ (ne : k ≢ length ps).
+        let below : k < length ps = omega (arith, lt, ne, length-append ps (v ∷ [])) in
+        get_or-set_other ks (length ps) k v (pos 0) ne ∙ a k below ∙ sym (get_or_append_left ps (v ∷ []) (pos 0) k below))
+    (cases_eq k (length ps))
+
+pub agree_less : (n m : ℕ) (ks ls : List ℤ) → m ≤ n → Agree n ks ls → Agree m ks ls
+agree_less n m ks ls le a k lt = a k (omega (arith, le, lt))
+
+pub agree_then : (n : ℕ) (js ks ls : List ℤ) → Agree n js ks → Agree n ks ls → Agree n js ls
+agree_then n js ks ls a b k lt = a k lt ∙ b k lt
+
+-- ---- machines
+
+-- what a machine that isn't cut does
+pub alive : (m n : Machine) → m.cut ≡ false → live m n ≡ n
+alive m n e = ap (λ (b : Bool). if b then m else n) e
+
+module _ (c : Checked) (inputs : List Storage) where
+  pub live_locals : (ps qs ls : List ℤ) (r : Run) (m : Machine) → length ls ≡ length m.locals → Agree (length qs) ls qs → Live c inputs ps r m → Live c inputs qs r (record m { locals = ls })
+  live_locals ps qs ls r m e a l = record {
+    cut = l.cut;
+    regular = l.regular;
+    shared = l.shared;
+    charges = l.charges;
+    locals = e ∙ l.locals;
+    pinned = a;
+    tensors = l.tensors;
+    stages = l.stages;
+    each = l.each;
+    given = l.given;
+    fits = l.fits;
+  }
+
+  -- one of the first locals is set
+  pub live_set : (ps : List ℤ) (r : Run) (m : Machine) (local : ℕ) (v : ℤ) → local < length ps → length ps ≤ (layout_of c).locals → Live c inputs ps r m → Live c inputs (slice_set ps local v) r (assign local v m)
+  live_set ps r m local v lt le l =
+      let room : local < length m.locals = omega (arith, lt, le, l.locals) in
+      let a : Agree (length (slice_set ps local v)) (slice_set m.locals local v) (slice_set ps local v) = subst (λ n. Agree n (slice_set m.locals local v) (slice_set ps local v)) (sym (length-set ps local v)) (agree_set (length ps) m.locals ps local v room lt l.pinned) in
+      subst (Live c inputs (slice_set ps local v) r) (sym (alive m (record m { locals = slice_set m.locals local v }) l.cut)) (live_locals ps (slice_set ps local v) (slice_set m.locals local v) r m (length-set m.locals local v) a l)
+
+  -- the local behind the first ones is set
+  pub live_more : (ps : List ℤ) (r : Run) (m : Machine) (v : ℤ) → length ps < (layout_of c).locals → Live c inputs ps r m → Live c inputs (ps ++ v ∷ []) r (assign (length ps) v m)
+  live_more ps r m v lt l =
+      let room : length ps < length m.locals = omega (arith, lt, l.locals) in
+      subst (Live c inputs (ps ++ v ∷ []) r) (sym (alive m (record m { locals = slice_set m.locals (length ps) v }) l.cut))
+      (live_locals ps (ps ++ v ∷ []) (slice_set m.locals (length ps) v) r m (length-set m.locals (length ps) v) (agree_more m.locals ps v room l.pinned) l)
+
+  -- other words of which less is said
+  pub live_less : (ps qs : List ℤ) (r : Run) (m : Machine) → length qs ≤ length ps → Agree (length qs) ps qs → Live c inputs ps r m → Live c inputs qs r m
+  live_less ps qs r m le a l = record {
+    cut = l.cut;
+    regular = l.regular;
+    shared = l.shared;
+    charges = l.charges;
+    locals = l.locals;
+    pinned = agree_then (length qs) m.locals ps qs (agree_less (length ps) (length qs) m.locals ps le l.pinned) a;
+    tensors = l.tensors;
+    stages = l.stages;
+    each = l.each;
+    given = l.given;
+    fits = l.fits;
+  }
+
+  pub live_charge : (ps : List ℤ) (r : Run) (m : Machine) (n : ℕ) → Live c inputs ps r m → Live c inputs ps (worked n r) (charge (pos n) m)
+  live_charge ps r m n l = subst (Live c inputs ps (worked n r)) (sym (alive m (record m { charges = m.charges + n }) l.cut)) record {
+    cut = l.cut;
+    regular = l.regular;
+    shared = l.shared;
+    charges = ap (λ k. k + n) l.charges;
+    locals = l.locals;
+    pinned = l.pinned;
+    tensors = l.tensors;
+    stages = l.stages;
+    each = l.each;
+    given = l.given;
+    fits = l.fits;
+  }
+
+  -- what a body declared is gone for the run
+  absent_or : (before : List Stage) (r : Run) (m : Machine) (P : Stage → Type 0) (t : ℕ) → P Absent → P (stage_at r.stages t) → P (stage_at (kept before r.stages) t)
+  absent_or before r m P t a p = ⊎_elim (λ e. subst P (sym e) a) (λ e. subst P (sym e) p) (kept_cases before r.stages t)
+
+  pub live_closed : (before : List Stage) (ps : List ℤ) (r : Run) (m : Machine) → Onward r (closed before r) → Live c inputs ps r m → Live c inputs ps (closed before r) m
+  live_closed before ps r m o l = record {
+    cut = l.cut;
+    regular = l.regular;
+    shared = l.shared;
+    charges = l.charges;
+    locals = l.locals;
+    pinned = l.pinned;
+    tensors = l.tensors;
+    stages = o.long ∙ l.stages;
+    each = λ t. absent_or before r m (λ (x : Stage). Stand x (held m.tensors t)) t tt (l.each t);
+    given = l.given;
+    fits = λ t. absent_or before r m (StageFits (setting_of c inputs) t) t tt (l.fits t);
+  }
+
+  -- ---- cut machines
+
+  pub over_on : (r n : Run) (m : Machine) → Onward r n → Over c inputs r m → Over c inputs n m
+  over_on r n m o x = record { cut = x.cut; regular = x.regular; over = x.over; most = omega (arith, x.most, o.work) }
+
+  -- code goes on from a machine that does what the run does
+  pub goes_on : (ps qs : List ℤ) (r n : Run) (m : Machine) (f : Action) → Onward r n → Stills f → Related c inputs ps r m → (Live c inputs ps r m → Related c inputs qs n (f m)) → Related c inputs qs n (f m)
+  goes_on ps qs r n m f o s (inl l) go = go l
+  goes_on ps qs r n m f o s (inr x) go = subst (Related c inputs qs n) (sym (s m x.cut)) (inr (over_on r n m o x))
+
+  -- the same without code
+  pub related_on : (ps qs : List ℤ) (r n : Run) (m : Machine) → Onward r n → Related c inputs ps r m → (Live c inputs ps r m → Live c inputs qs n m) → Related c inputs qs n m
+  related_on ps qs r n m o (inl l) go = inl (go l)
+  related_on ps qs r n m o (inr x) go = inr (over_on r n m o x)

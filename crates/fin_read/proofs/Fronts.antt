@@ -1,0 +1,66 @@
+-- Lists of levels and extents without their first.
+use Rattle.std.proofs.Common.{◌≡◌, ℕ, zero, suc, ◌-◌, ◌^◌, ◌≤◌, List, [], ◌∷◌, ◌++◌, map, append-nil, length, take, drop, refl, sym, ap, ◌∙◌, subst, arith}
+use Rattle.fin_tensor.specs.declared.format.Level.{Level}
+use Rattle.fin_tensor.specs.Levels.{AreSmall}
+use Rattle.fin_ir.specs.declared.expression.IExpr.{IExpr}
+use Rattle.fin_ir.specs.declared.code.Code.{Code}
+use Rattle.fin_read.specs.Steps.{Step, assign_of}
+use Rattle.fin_read.specs.Reads.{levels_steps}
+use Rattle.fin_read.specs.Values.{AreShapes}
+use Rattle.fin_read.specs.Counts.{count_from}
+
+pub small_rest : (ns : List ℕ) → AreSmall ns → AreSmall (drop 1 ns)
+small_rest [] h k lt = absurd (omega (arith, lt))
+small_rest (n ∷ ns) h k lt = h (suc k) (omega (arith, lt))
+
+pub small_part : (ns : List ℕ) → AreSmall ns → AreSmall (take (length ns - 1) (drop 1 ns))
+small_part ns h = subst AreSmall (sym (whole ns)) (small_rest ns h) where
+  all : (xs : List ℕ) → take (length xs) xs ≡ xs
+  all [] = refl
+  all (x ∷ xs) = ap (λ (ys : List ℕ). x ∷ ys) (all xs)
+
+  whole : (xs : List ℕ) → take (length xs - 1) (drop 1 xs) ≡ drop 1 xs
+  whole [] = refl
+  whole (x ∷ xs) =
+      let same : length (x ∷ xs) - 1 ≡ length xs = omega arith in
+      ap (λ (n : ℕ). take n xs) same ∙ all xs
+
+pub one_shape : (n : ℕ) → n ≤ 2 ^ 40 → AreShapes ((n ∷ []) ∷ [])
+one_shape n h zero zero lt = h
+one_shape n h zero (suc k) lt = absurd (omega (arith, lt))
+one_shape n h (suc tensor) k lt = absurd (omega (arith, lt))
+
+pub count_ends : (tensor k : ℕ) (ls : List Level) (ns : List ℕ) (count : IExpr) → length ns ≡ 0 → count_from tensor k ls ns count ≡ count
+count_ends tensor k [] ns count h = refl
+count_ends tensor k (l ∷ ls) [] count h = refl
+count_ends tensor k (l ∷ ls) (n ∷ ns) count h = absurd (omega (arith, h))
+
+pub count_stops : (tensor k : ℕ) (ls : List Level) (ns : List ℕ) (count : IExpr) → length ls ≡ 0 → count_from tensor k ls ns count ≡ count
+count_stops tensor k [] ns count h = refl
+count_stops tensor k (l ∷ ls) ns count h = absurd (omega (arith, h))
+
+-- where no level, no extent or no index is left, no step is
+left_alone : (into : List Code) (ss : List Step) → ss ≡ [] → into ≡ into ++ map assign_of ss
+left_alone into ss e = sym (append-nil into) ∙ ap (λ (s : List Step). into ++ map assign_of s) (sym e)
+
+module _ (into : List Code) (tensor k : ℕ) (ls : List Level) (ns : List ℕ) (xs : List IExpr) (at : ℕ) where
+  pub no_level : length ls ≡ 0 → into ≡ into ++ map assign_of (levels_steps tensor k ls ns xs at)
+  no_level h = left_alone into (levels_steps tensor k ls ns xs at) (none ls h) where
+    none : (ls' : List Level) → length ls' ≡ 0 → levels_steps tensor k ls' ns xs at ≡ []
+    none [] h' = refl
+    none (l ∷ ls') h' = absurd (omega (arith, h'))
+
+  pub no_extent : length ns ≡ 0 → into ≡ into ++ map assign_of (levels_steps tensor k ls ns xs at)
+  no_extent h = left_alone into (levels_steps tensor k ls ns xs at) (none ls ns h) where
+    none : (ls' : List Level) (ns' : List ℕ) → length ns' ≡ 0 → levels_steps tensor k ls' ns' xs at ≡ []
+    none [] ns' h' = refl
+    none (l ∷ ls') [] h' = refl
+    none (l ∷ ls') (n ∷ ns') h' = absurd (omega (arith, h'))
+
+  pub no_index : length xs ≡ 0 → into ≡ into ++ map assign_of (levels_steps tensor k ls ns xs at)
+  no_index h = left_alone into (levels_steps tensor k ls ns xs at) (none ls ns xs h) where
+    none : (ls' : List Level) (ns' : List ℕ) (xs' : List IExpr) → length xs' ≡ 0 → levels_steps tensor k ls' ns' xs' at ≡ []
+    none [] ns' xs' h' = refl
+    none (l ∷ ls') [] xs' h' = refl
+    none (l ∷ ls') (n ∷ ns') [] h' = refl
+    none (l ∷ ls') (n ∷ ns') (x ∷ xs') h' = absurd (omega (arith, h'))
