@@ -4,6 +4,5 @@ pub mod OneWhole
 pub mod Verdicts
 pub mod JobsFit
 pub mod Fitted
-pub mod Lowering
 pub mod Running
 pub mod Taking

@@ -10,8 +10,11 @@ use Rattle.fin_ast.specs.declared.checked.Checked.{Checked}
 use Rattle.fin_ast.specs.Accepted.{IsAccepted, FitProgram}
 use Rattle.fin_ast.specs.Shaped.{FitHeaders}
 use Rattle.fin_ast.specs.Life.{is_output}
+use Rattle.fin_ast.specs.declared.header.Kind.{Kind}
+use Rattle.fin_ast.specs.declared.header.Kind.TheVariants.{Input, Output, Local}
 use Rattle.fin_ast.specs.Dense.{function_of, setting_of, unbound}
 use Rattle.fin_ast.proofs.Fitting.{found_fit}
+use Rattle.fin_dense.specs.Plain as dense
 use Rattle.fin_ir.specs.declared.layout.Plan.{Plan}
 use Rattle.fin_ir.specs.Frozen as plain
 use Rattle.fin_ir.specs.Machine.{Tensor, nothing, building, stored, held, Machine}
@@ -26,6 +29,7 @@ use Rattle.fin_stage.proofs.Fits.{nothing_fits, stages_fit}
 use Rattle.fin_stage.proofs.Soundness.{accepted_is_sound}
 use Rattle.fin_lower.specs.Plans.{plan_of}
 use Rattle.fin_lower.specs.Lowered.{canon_of, ended, IsCut, IsLowered, IsWhole}
+use Rattle.fin_lower.proofs.Whole.{accepted_is_lowered}
 use Rattle.fin_run.specs.declared.state.Held.{Held}
 use Rattle.fin_run.specs.declared.state.Held.TheVariants as held_as
 use Rattle.fin_run.specs.declared.state.State.{State}
@@ -33,7 +37,12 @@ use Rattle.fin_run.specs.Ends.{IsRegular}
 use Rattle.fin_run.specs.States.{machine, tensors_of}
 use Rattle.fin_run.specs.Storages.{storage_in}
 use Rattle.fin_engine.specs.Run.{HoldsOutputs, IsHeld}
-use Rattle.fin_engine.proofs.Lowering.{accepted_is_lowered}
+
+-- both say which kind is that of outputs
+same_kind : (kind : Kind) → dense.is_output kind ≡ is_output kind
+same_kind Input = refl
+same_kind Output = refl
+same_kind Local = refl
 
 -- ---- a tensor that is a storage
 
@@ -137,4 +146,4 @@ module _ (c : Checked) (inputs : List Storage) (accepted : IsAccepted c) (fit : 
           (found.storage, ap (λ (y : List Storage). storage_in y left.tensors.items tensor) (sym same) ∙ found.found, is_canon h.format f found.storage (fill_is tensor h at output) found.lists)
 
       pub holds : HoldsOutputs c inputs left.tensors.items 0
-      holds tensor h le at output = output_held tensor h at output
+      holds tensor h le at output = output_held tensor h at (sym (same_kind h.kind) ∙ output)

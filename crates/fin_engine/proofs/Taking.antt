@@ -8,10 +8,10 @@ use Rattle.fin_tensor.specs.Canon.{IsCanon, undecorated}
 use Rattle.fin_ast.specs.declared.header.Header.{Header}
 use Rattle.fin_ast.specs.declared.checked.Checked.{Checked}
 use Rattle.fin_ast.specs.Dense.{function_of}
-use Rattle.fin_ast.specs.Life.{is_output}
+use Rattle.fin_dense.specs.Plain.{AreStored, is_output, outputs_from}
 use Rattle.fin_run.specs.declared.state.Held.{Held}
 use Rattle.fin_run.specs.Storages.{storage_if, storage_in}
-use Rattle.fin_engine.specs.Run.{AreStored, HoldsOutputs, IsFront, IsHeld, outputs_from}
+use Rattle.fin_engine.specs.Run.{HoldsOutputs, IsFront, IsHeld}
 
 opened : {X : Type 0} (xs : List X) (k : ℕ) (x : X) → slice_get xs k ≡ Some x → drop k xs ≡ x ∷ drop (suc k) xs
 opened [] k x e = cc

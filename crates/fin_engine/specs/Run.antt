@@ -9,22 +9,11 @@ use Rattle.fin_tensor.specs.declared.storage.Storage.{Storage}
 use Rattle.fin_ast.specs.declared.header.Header.{Header}
 use Rattle.fin_ast.specs.declared.checked.Checked.{Checked}
 use Rattle.fin_ast.specs.Dense.{function_of}
-use Rattle.fin_ast.specs.Life.{is_output}
+use Rattle.fin_dense.specs.Plain.{AreStored, is_output, outputs_from}
 use Rattle.fin_stage.specs.Staged.{coordinate_work}
 use Rattle.fin_run.specs.declared.state.Held.{Held}
 use Rattle.fin_run.specs.Storages.{storage_in}
 use Rattle.fin_engine.specs.declared.run.Done.{Done}
-
--- the outputs among headers from a number on
-abbrev pub outputs_from : ℕ → List Header → List (ℕ × Header)
-outputs_from tensor [] = []
-outputs_from tensor (h ∷ hs) = if is_output h.kind then (tensor, h) ∷ outputs_from (tensor + 1) hs else outputs_from (tensor + 1) hs
-
--- these are the canonical storages of their functions, in order
-abbrev pub AreStored : (ℕ → TensorFunction) → List (ℕ × Header) → List (ℕ × Storage) → Type 0
-AreStored f [] [] = Unit {0}
-AreStored f (e ∷ es) (o ∷ os) = (o.0 ≡ e.0) × IsCanon (undecorated e.1.format) (f e.0) o.1 × AreStored f es os
-AreStored f es os = ⊥
 
 -- the outputs are those of dense evaluation, and the work is the program's, coordinate by coordinate, and within the budget
 pub record IsDone (c : Checked) (inputs : List Storage) (budget : ℕ) (done : Done) : Type 0 where

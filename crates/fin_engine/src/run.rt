@@ -3,14 +3,14 @@ ghost use Rattle.std.specs.Prelude.{◌≡◌, ◌+◌, ◌<◌, ◌≤◌, ◌^
 ghost use Rattle.fin_tensor.specs.declared.storage.Storage.{Storage};
 ghost use Rattle.fin_ast.specs.Accepted.{FitProgram, IsAccepted};
 ghost use Rattle.fin_ast.specs.Dense.{function_of};
-ghost use Rattle.fin_ast.specs.Life.{is_output as is_output_kind};
 ghost use Rattle.fin_ir.specs.Meaning.{meaning};
 ghost use Rattle.fin_run.specs.Ends.{IsRegular};
 ghost use Rattle.fin_run.specs.States.{machine};
 ghost use Rattle.fin_run.specs.Storages.{storage_in};
 ghost use Rattle.fin_lower.specs.Plans.{plan_of};
 ghost use Rattle.fin_stage.specs.Staged.{coordinate_work};
-ghost use Rattle.fin_engine.specs.Run.{AreStored, HoldsOutputs, IsFront, IsSpent, RunsOne, outputs_from};
+ghost use Rattle.fin_dense.specs.Plain.{AreStored, is_output as is_output_kind, outputs_from};
+ghost use Rattle.fin_engine.specs.Run.{HoldsOutputs, IsFront, IsSpent, RunsOne};
 
 use crate::job::Job;
 use fin_ast::{Header, Kind};
@@ -114,15 +114,7 @@ fn counted<L: Ledger>(
     ensures spent { IsErrOf result RunError.Spent → budget < (meaning plan.now.layout plan.now.code (machine inputs.now state.old 0)).charges }
 {
     let mut steps = Steps::<L>::new(blank);
-    run_code(
-        alloc,
-        &plan.code,
-        &plan.layout,
-        inputs,
-        state,
-        budget,
-        &mut steps,
-    )
+    run_code(alloc, &plan.code, &plan.layout, inputs, state, budget, &mut steps)
 }
 
 // The storages of the outputs, in the order of headers.
