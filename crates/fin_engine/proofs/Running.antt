@@ -21,14 +21,14 @@ use Rattle.fin_ir.specs.Machine.{Tensor, nothing, building, stored, held, Machin
 use Rattle.fin_ir.specs.Meaning.{meaning}
 use Rattle.fin_ir.specs.Regular.{IsLayout}
 use Rattle.fin_ir.specs.Start.{given_if, started}
-use Rattle.fin_stage.specs.Stages.{Frozen, stage_at}
+use Rattle.fin_stage.specs.Stages.{Frozen}
 use Rattle.fin_stage.specs.Staged.{coordinate_work, staged, before_all}
 use Rattle.fin_stage.specs.Sound.{IsSound}
 use Rattle.fin_stage.specs.Fitting.{StageFits, StagesFit}
 use Rattle.fin_stage.proofs.Fits.{nothing_fits, stages_fit}
 use Rattle.fin_stage.proofs.Soundness.{accepted_is_sound}
 use Rattle.fin_lower.specs.Plans.{plan_of}
-use Rattle.fin_lower.specs.Lowered.{canon_of, ended, IsCut, IsLowered, IsWhole}
+use Rattle.fin_lower.specs.Lowered.{canon_of, ended, IsLowered, IsWhole}
 use Rattle.fin_lower.proofs.Whole.{accepted_is_lowered}
 use Rattle.fin_run.specs.declared.state.Held.{Held}
 use Rattle.fin_run.specs.declared.state.Held.TheVariants as held_as
