@@ -5,7 +5,7 @@ use crate::{finch, finch_one};
 use examples::EXAMPLES;
 use fin_ports::{MemSink, MemSource};
 use fin_words::asks_workers;
-use rows::{ENDLESS, LARGE, ROWS};
+use rows::{ENDLESS, LARGE, MASK, ROWS, TIMES};
 use std::alloc::{AllocError, Global};
 use std::process::Abort;
 use std::test::Fail;
@@ -357,14 +357,63 @@ fn each_job_is_served(rt: HostRuntime) -> Result<(), Fail> {
 // Evaluation stops at a turn too many, and an output that is too large isn't stored.
 #[test]
 fn limits_are_kept(rt: HostRuntime) -> Result<(), Fail> {
-    for (words, job) in [(MODES[1], ENDLESS), (MODES[0], LARGE)] {
+    for job in [ENDLESS, LARGE] {
         let case = Case {
-            words,
+            words: MODES[1],
             job,
             err: b"refused B2 line 0\n",
             ..REFUSED
         };
         ends_as(&rt, rt.alloc(), &case)?;
+    }
+    Ok(())
+}
+
+// A run ends whole where its budget is its work.
+const ENOUGH: [Case; 2] = [
+    Case {
+        words: &["finch", "run", "--budget", "23"],
+        job: TIMES.job,
+        out: TIMES.out,
+        ..RUN
+    },
+    Case {
+        words: &["finch", "run", "--budget", "18"],
+        job: MASK.job,
+        out: MASK.out,
+        ..RUN
+    },
+];
+
+// It doesn't where that is less. An output that is too large is over every budget.
+const OVER: Case = Case {
+    err: b"refused W1 line 0\n",
+    ..REFUSED
+};
+
+const TOO_LITTLE: [Case; 4] = [
+    Case {
+        words: &["finch", "run", "--budget", "22"],
+        job: TIMES.job,
+        ..OVER
+    },
+    Case {
+        words: &["finch", "run", "--budget", "17"],
+        job: MASK.job,
+        ..OVER
+    },
+    Case {
+        words: &["finch", "run", "--budget", "1000"],
+        job: ENDLESS,
+        ..OVER
+    },
+    Case { job: LARGE, ..OVER },
+];
+
+#[test]
+fn budgets_are_kept(rt: HostRuntime) -> Result<(), Fail> {
+    for case in ENOUGH.iter().chain(&TOO_LITTLE) {
+        ends_as(&rt, rt.alloc(), case)?;
     }
     Ok(())
 }

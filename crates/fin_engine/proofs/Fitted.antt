@@ -24,18 +24,17 @@ use Rattle.fin_tensor.specs.declared.storage.Storage.{Storage}
 use Rattle.fin_text.specs.declared.read.Given.{Given}
 use Rattle.fin_ast.specs.declared.header.Header.{Header}
 use Rattle.fin_ast.specs.declared.program.Program.{Program}
-use Rattle.fin_ast.specs.declared.checked.Checked.{Checked}
 use Rattle.fin_ast.specs.declared.checked.Dims.{Dims}
 use Rattle.fin_ast.specs.Accepted.{IsAccepted, FitProgram, HaveFormats, inputs_among}
 use Rattle.fin_ast.specs.Headers.{names_of}
-use Rattle.fin_ast.specs.Infer.{IsInferred, given as given_shapes, shapes_in, ties_in, dims_in}
+use Rattle.fin_ast.specs.Infer.{IsInferred, given as given_shapes, shapes_in}
 use Rattle.fin_ast.specs.Kinds.{is_input}
-use Rattle.fin_ast.specs.Sizes.{broken, first_of, number_of, shape_from, shape_of as found_shape, shapes_from}
-use Rattle.fin_ast.specs.Ties.{Dimension, Extents, Shapes, AreExtents, HasExtent, known, number_in}
+use Rattle.fin_ast.specs.Sizes.{first_of, number_of, shape_from, shape_of as found_shape, shapes_from}
+use Rattle.fin_ast.specs.Ties.{Dimension, Extents, Shapes, known, number_in}
 use Rattle.fin_ast.proofs.Unbroken.{first_none, second_none, unbroken}
 use Rattle.fin_engine.specs.declared.job.Job.{Job}
 use Rattle.fin_engine.specs.Inputs.{Tensors, tensor_named, same_level, same_format, lacking, is_header_of, straying, unmatched, given_to, storage_of, shape_of, inputs_of, shapes_of}
-use Rattle.fin_engine.specs.Verdict.{Checks, IsJob, IsJobOf}
+use Rattle.fin_engine.specs.Verdict.{Checks, IsJob}
 use Rattle.fin_engine.proofs.JobsFit.{small_shapes}
 
 -- ---- an accepted program

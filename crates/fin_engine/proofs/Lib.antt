@@ -4,3 +4,5 @@ pub mod OneWhole
 pub mod Verdicts
 pub mod JobsFit
 pub mod Fitted
+pub mod Running
+pub mod Taking

@@ -1,8 +1,7 @@
 -- A job has one verdict.
-use Rattle.std.proofs.Common.{◌≡◌, ◌≢◌, ◌∙◌, ◌+◌, ℕ, List, [], ◌∷◌, ◌++◌, length, refl, sym, ap, ap₂, subst, arith, codes, length-append}
+use Rattle.std.proofs.Common.{◌≡◌, ◌∙◌, ◌+◌, ℕ, List, [], ◌∷◌, length, refl, sym, ap, subst, arith, codes, length-append}
 use Rattle.std.specs.Prelude.{All}
 use Rattle.std.specs.List.{join_with_byte}
-use Rattle.std.proofs.lemmas.List.Elements.{All-tail}
 use Rattle.std.proofs.Math.Seq.{get_or-append_seam}
 use Rattle.std.specs.Prelude.{Ok, Err, Some, None, Option}
 use Rattle.fin_base.specs.declared.refusal.Fail.TheVariants.{Refused}
@@ -21,13 +20,12 @@ use Rattle.fin_text.proofs.OneText.{one_reading, one_refusal as one_tensor_refus
 use Rattle.fin_engine.specs.declared.job.Job.{Job}
 use Rattle.fin_engine.specs.Cut.{IsBefore, IsCut, IsEndless}
 use Rattle.fin_engine.specs.Numbers.{told}
-use Rattle.fin_engine.specs.Inputs.{Tensors, unmatched, shapes_of, inputs_of}
+use Rattle.fin_engine.specs.Inputs.{Tensors, unmatched, shapes_of}
 use Rattle.fin_engine.specs.Verdict.{Accepts, Breaks, BreaksLater, BreaksWhole, IsCompletion, IsJob, IsJobOf, KeepsWhole, Reads}
 use Rattle.fin_ast.specs.declared.program.Program.{Program}
 use Rattle.fin_ast.specs.declared.checked.Checked.{Checked}
 use Rattle.fin_ast.specs.declared.checked.Dims.{Dims}
 use Rattle.fin_ast.specs.Infer.{IsInferred}
-use Rattle.fin_ast.specs.Insertion.{completed_program}
 use Rattle.fin_ast.specs.Life.{life_in}
 use Rattle.fin_ast.specs.Order.{order_in}
 use Rattle.fin_ast.specs.Ties.{Shapes}

@@ -1,9 +1,8 @@
 -- Runs of a job's loop code: the outputs in canonical storage, or that the work is over the budget.
-use Rattle.std.specs.Prelude.{◌≡◌, ℕ, ◌+◌, ◌<◌, ◌≤◌, true, if◌then◌else◌, List, [], ◌∷◌, ◌++◌, drop, Some, Result, Ok, Err, slice_get}
+use Rattle.std.specs.Prelude.{◌≡◌, ℕ, ◌<◌, ◌≤◌, true, List, ◌++◌, drop, Some, Result, Ok, Err, slice_get}
 use Rattle.fin_base.specs.declared.refusal.Fail.{Fail}
 use Rattle.fin_base.specs.declared.refusal.Fail.TheVariants.{Refused, Memory}
 use Rattle.fin_base.specs.declared.refusal.Rule.TheVariants.{W1}
-use Rattle.fin_tensor.specs.TensorFunction.{TensorFunction}
 use Rattle.fin_tensor.specs.Canon.{IsCanon, undecorated}
 use Rattle.fin_tensor.specs.declared.storage.Storage.{Storage}
 use Rattle.fin_ast.specs.declared.header.Header.{Header}

@@ -1,5 +1,5 @@
 -- The verdict on a job: the first rule that it breaks, with its line, or what it is as a job that breaks none.
-use Rattle.std.specs.Prelude.{◌≡◌, ◌⊎◌, ℕ, ◌+◌, List, [], Option, Some, None, Result, Ok, Err}
+use Rattle.std.specs.Prelude.{◌≡◌, ℕ, ◌+◌, List, [], Some, None, Result, Ok, Err}
 use Rattle.fin_base.specs.declared.refusal.Fail.{Fail}
 use Rattle.fin_base.specs.declared.refusal.Fail.TheVariants.{Memory, Refused}
 use Rattle.fin_base.specs.declared.refusal.Refusal.{Refusal}

@@ -114,7 +114,15 @@ fn counted<L: Ledger>(
     ensures spent { IsErrOf result RunError.Spent → budget < (meaning plan.now.layout plan.now.code (machine inputs.now state.old 0)).charges }
 {
     let mut steps = Steps::<L>::new(blank);
-    run_code(alloc, &plan.code, &plan.layout, inputs, state, budget, &mut steps)
+    run_code(
+        alloc,
+        &plan.code,
+        &plan.layout,
+        inputs,
+        state,
+        budget,
+        &mut steps,
+    )
 }
 
 // The storages of the outputs, in the order of headers.

@@ -1,4 +1,4 @@
-use Rattle.std.proofs.Common.{◌≡◌, ◌+◌, ap, sym, ◌∙◌, drop}
+use Rattle.std.proofs.Common.{◌+◌, ap, sym, ◌∙◌, drop}
 use Rattle.std.specs.Option.{option_or}
 use Rattle.fin_ast.specs.Sizes.{first_of}
 use Rattle.fin_engine.specs.Inputs.{straying}
