@@ -14,14 +14,14 @@ ROOT = pathlib.Path(__file__).resolve().parent.parent
 def main():
     program = sys.argv[1:] or [str(ROOT / "finch")]
     page = (ROOT / "docs" / "RULES.md").read_text()
-    found = re.findall(r"```(job|run)\n(.*?)```\n\n`(refused [A-Z0-9]+ line \d+)`", page, re.S)
-    blocks = len(re.findall(r"```(?:job|run)\n", page))
+    found = re.findall(r"```(job|plain|run)( --budget \d+)?\n(.*?)```\n\n`(refused [A-Z0-9]+ line \d+)`", page, re.S)
+    blocks = len(re.findall(r"```(?:job|plain|run)(?: --budget \d+)?\n", page))
     failed = blocks != len(found)
     if failed:
         print(f"RULES.md has {blocks} jobs and {len(found)} answers")
-    for kind, job, line in found:
-        mode = "check" if kind == "job" else "run"
-        done = subprocess.run(program + [mode], input=job.encode(), capture_output=True)
+    for kind, words, job, line in found:
+        mode = "check" if kind == "job" else kind
+        done = subprocess.run(program + [mode] + words.split(), input=job.encode(), capture_output=True)
         if (done.returncode, done.stdout, done.stderr) != (1, b"", line.encode() + b"\n"):
             print(f"expected {line}, got {done}")
             failed = True
