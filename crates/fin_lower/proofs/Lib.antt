@@ -7,3 +7,6 @@ pub mod Bodies
 pub mod Turns
 pub mod Saving
 pub mod Control
+pub mod Fronts
+pub mod Listing
+pub mod Extents

@@ -5,3 +5,9 @@
 //! evaluation gives, and its charges are the coordinate work; where it is cut, its charges are over 2^40, and at most that
 //! work.
 #![tactic(auto)]
+
+mod plan;
+mod single;
+mod statements;
+
+pub use plan::lower;

@@ -1,0 +1,20 @@
+-- The code of a list of statements, one after another.
+use Rattle.std.proofs.Common.{◌≡◌, ℕ, suc, ◌+◌, ◌<◌, List, [], ◌∷◌, ◌++◌, length, drop, get_or, drop-cons, add-one, refl, sym, ap, ◌∙◌, arith, append_assoc}
+use Rattle.std.specs.Prelude.{max}
+use Rattle.fin_ast.specs.declared.tree.Stmt.{Stmt}
+use Rattle.fin_ir.specs.declared.code.Code.{Code}
+use Rattle.fin_read.specs.Values.{Heads}
+use Rattle.fin_lower.specs.Lowering.{Sides, code_of_stmt, code_of_all}
+use Rattle.fin_lower.specs.Room.{reach_of, reach_of_all}
+
+-- the statements from i on are that one and those from the next on
+from_here : (body : List Stmt) (i : ℕ) (x : Stmt) → i < length body → x ≡ get_or body i x → drop i body ≡ x ∷ drop (i + 1) body
+from_here body i x h e = drop-cons body i x h ∙ ap (λ (y : Stmt). y ∷ drop (suc i) body) (sym e) ∙ ap (λ (n : ℕ). x ∷ drop n body) (sym (add-one i))
+
+pub code_next : (d : Sides) (next : ℕ) (into : List Code) (body : List Stmt) (i : ℕ) (x : Stmt) → i < length body → x ≡ get_or body i x → (into ++ code_of_stmt d x next ∷ []) ++ code_of_all d next (drop (i + 1) body) ≡ into ++ code_of_all d next (drop i body)
+code_next d next into body i x h e = append_assoc into (code_of_stmt d x next ∷ []) (code_of_all d next (drop (i + 1) body)) ∙ ap (λ (ys : List Stmt). into ++ code_of_all d next ys) (sym (from_here body i x h e))
+
+pub reach_next : (h : Heads) (next m : ℕ) (body : List Stmt) (i : ℕ) (x : Stmt) → i < length body → x ≡ get_or body i x → max (max m (reach_of h x next)) (reach_of_all h next (drop (i + 1) body)) ≡ max m (reach_of_all h next (drop i body))
+reach_next h next m body i x lt e = both_max m (reach_of h x next) (reach_of_all h next (drop (i + 1) body)) ∙ ap (λ (ys : List Stmt). max m (reach_of_all h next ys)) (sym (from_here body i x lt e)) where
+  both_max : (a b c : ℕ) → max (max a b) c ≡ max a (max b c)
+  both_max a b c = omega arith
