@@ -10,3 +10,4 @@ pub mod Control
 pub mod Fronts
 pub mod Listing
 pub mod Extents
+pub mod Capped

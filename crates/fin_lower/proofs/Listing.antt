@@ -1,11 +1,12 @@
 -- The code of a list of statements, one after another.
-use Rattle.std.proofs.Common.{◌≡◌, ℕ, suc, ◌+◌, ◌<◌, List, [], ◌∷◌, ◌++◌, length, drop, get_or, drop-cons, add-one, refl, sym, ap, ◌∙◌, arith, append_assoc}
+use Rattle.std.proofs.Common.{◌≡◌, ℕ, suc, ◌+◌, ◌<◌, ◌≤◌, map, List, [], ◌∷◌, ◌++◌, length, drop, get_or, drop-cons, add-one, refl, sym, ap, ◌∙◌, arith, append_assoc}
 use Rattle.std.specs.Prelude.{max}
 use Rattle.fin_ast.specs.declared.tree.Stmt.{Stmt}
 use Rattle.fin_ir.specs.declared.code.Code.{Code}
 use Rattle.fin_read.specs.Values.{Heads}
 use Rattle.fin_lower.specs.Lowering.{Sides, code_of_stmt, code_of_all}
-use Rattle.fin_lower.specs.Room.{reach_of, reach_of_all}
+use Rattle.fin_lower.specs.Room.{most, reach_of, reach_of_all}
+use Rattle.fin_lower.proofs.Saving.{room_low}
 
 -- the statements from i on are that one and those from the next on
 from_here : (body : List Stmt) (i : ℕ) (x : Stmt) → i < length body → x ≡ get_or body i x → drop i body ≡ x ∷ drop (i + 1) body
@@ -18,3 +19,7 @@ pub reach_next : (h : Heads) (next m : ℕ) (body : List Stmt) (i : ℕ) (x : St
 reach_next h next m body i x lt e = both_max m (reach_of h x next) (reach_of_all h next (drop (i + 1) body)) ∙ ap (λ (ys : List Stmt). max m (reach_of_all h next ys)) (sym (from_here body i x lt e)) where
   both_max : (a b c : ℕ) → max (max a b) c ≡ max a (max b c)
   both_max a b c = omega arith
+
+-- statements need the locals before the first free one
+pub reach_over : (h : Heads) (next : ℕ) (body : List Stmt) → max next (reach_of_all h next body) ≡ reach_of_all h next body
+reach_over h next body = let under : next ≤ most next (map (reach_of h) body) = room_low next (map (reach_of h) body) in omega (arith, under)

@@ -1,6 +1,6 @@
 //! The code of statements. It has a local for each variable, by its number, and others from `next` on; it leaves each
 //! local below `next` as it was. `most` tells how many locals are needed so far.
-ghost use Rattle.std.specs.Prelude.{◌≡◌, ◌+◌, ◌++◌, ◌∷◌, [], max, IfOk, OnOk, slice_index_or};
+ghost use Rattle.std.specs.Prelude.{◌≡◌, ◌+◌, ◌≤◌, ◌^◌, ◌++◌, ◌∷◌, [], max, IfOk, OnOk, slice_index_or};
 ghost use Rattle.fin_ast.specs.Shaped.{AreRanged};
 ghost use Rattle.fin_read.specs.Values as values;
 ghost use Rattle.fin_lower.specs.Built as built;
@@ -151,21 +151,30 @@ fn loop_of(
     requires ranged { AreRanged sides.now.ranges.now }
     ensures { IfOk result (λ c. c ≡ spec.loop_over (slice_index_or sides.now.ranges.now var (0, 0)) var next body) }
 {
-    let (lo, hi) = match sides.ranges.get(var as usize) {
-        Some(range) => *range,
-        None => (0, 0),
-    };
+    let (lo, hi) = range_of(sides, var);
     let mut codes = Items::new(alloc);
     push_charge(&mut codes)?;
     push_move(&mut codes, next, var)?;
     codes.push(Code::ForLoop {
         var,
-        lo: IExpr::Num(lo as i64),
+        lo: IExpr::Num(lo.min(hi) as i64),
         hi: IExpr::Num(hi as i64),
         body,
     })?;
     push_move(&mut codes, var, next)?;
     Ok(Code::Seq(codes))
+}
+
+// The range of a variable; that of a let is empty.
+fn range_of(sides: &Sides<'_>, var: u32) -> (u64, u64)
+    requires ranged { AreRanged sides.now.ranges.now }
+    ensures value { result ≡ slice_index_or sides.now.ranges.now var (0, 0) }
+    ensures small { result.1 ≤ 2 ^ 40 }
+{
+    match sides.ranges.get(var as usize) {
+        Some(range) => *range,
+        None => (0, 0),
+    }
 }
 
 // The local takes what the other has.
