@@ -29,7 +29,7 @@ pub fn lower(alloc: Global, checked: &Checked) -> Result<Plan, AllocError>
     Ok(Plan { code, layout })
 }
 
-#[tactic(auto, using(crate::proofs::Extents::are_shapes, crate::proofs::Extents::are_built, crate::proofs::Listing::reach_over))]
+#[tactic(auto, using(crate::proofs::Extents::are_shapes, crate::proofs::Extents::are_built))]
 fn code_of(
     alloc: Global,
     checked: &Checked,
