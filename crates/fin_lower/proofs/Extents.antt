@@ -1,13 +1,10 @@
 -- Extents that fit headers are small, and so are those of dense levels.
-use Rattle.std.proofs.Common.{◌≡◌, ℕ, zero, suc, ◌+◌, ◌<◌, ◌≤◌, ◌^◌, List, [], ◌∷◌, length, refl, sym, arith}
-use Rattle.std.specs.Prelude.{slice_index_or}
-use Rattle.fin_tensor.specs.Extents.{dense_size}
+use Rattle.std.proofs.Common.{ℕ, zero, suc, List, [], ◌∷◌, arith}
 use Rattle.fin_tensor.specs.Levels.{AreSmall}
 use Rattle.fin_ast.specs.declared.header.Header.{Header}
 use Rattle.fin_ast.specs.declared.checked.Dims.{Dims}
 use Rattle.fin_ast.specs.Shaped.{AreShaped, FitHeaders}
-use Rattle.fin_stage.specs.Staged.{no_format}
-use Rattle.fin_read.specs.Values.{AreShapes, heads_of, format_of, shape_of}
+use Rattle.fin_read.specs.Values.{AreShapes}
 use Rattle.fin_lower.specs.Built.{AreBuilt}
 
 none_small : AreSmall []

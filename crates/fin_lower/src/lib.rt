@@ -9,5 +9,7 @@
 mod plan;
 mod single;
 mod statements;
+#[cfg(test)]
+mod tests;
 
 pub use plan::lower;

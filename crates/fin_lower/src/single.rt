@@ -25,11 +25,7 @@ pub(crate) fn push_charge(into: &mut Items<Code>) -> Result<(), AllocError>
 }
 
 /// The code of a declaration.
-pub(crate) fn declare_code(
-    alloc: Global,
-    heads: &Heads<'_>,
-    tensor: u8,
-) -> Result<Code, AllocError>
+pub(crate) fn declare_code(alloc: Global, heads: &Heads<'_>, tensor: u8) -> Result<Code, AllocError>
     requires built { built.AreBuilt heads.now.headers.now heads.now.shapes.now }
     ensures { IfOk result (λ c. c ≡ spec.declare_code (values.heads_of heads.now.headers.now heads.now.shapes.now) tensor) }
 {
@@ -58,11 +54,7 @@ fn dense_front(levels: &[Level], shape: &[u64]) -> u64
 }
 
 /// The code of a freeze.
-pub(crate) fn freeze_code(
-    alloc: Global,
-    heads: &Heads<'_>,
-    tensor: u8,
-) -> Result<Code, AllocError>
+pub(crate) fn freeze_code(alloc: Global, heads: &Heads<'_>, tensor: u8) -> Result<Code, AllocError>
     requires shapes { values.AreShapes heads.now.shapes.now }
     ensures { IfOk result (λ c. c ≡ spec.freeze_code (values.heads_of heads.now.headers.now heads.now.shapes.now) tensor) }
 {
