@@ -31,10 +31,10 @@ pub(crate) fn declare_code(alloc: Global, heads: &Heads<'_>, tensor: u8) -> Resu
 {
     let format = format_of(alloc, heads, tensor)?;
     let front = dense_front(format.levels.as_slice(), shape_of(heads, tensor));
-    let mut codes = Items::new(alloc);
-    codes.push(Code::Declare { tensor })?;
-    codes.push(Code::Charge(IExpr::Num((1 + front) as i64)))?;
-    Ok(Code::Seq(codes))
+    let mut declared = Items::new(alloc);
+    declared.push(Code::Declare { tensor })?;
+    declared.push(Code::Charge(IExpr::Num((1 + front) as i64)))?;
+    Ok(Code::Seq(declared))
 }
 
 // The product of the dense extents before the first other level.
@@ -59,11 +59,11 @@ pub(crate) fn freeze_code(alloc: Global, heads: &Heads<'_>, tensor: u8) -> Resul
     ensures { IfOk result (λ c. c ≡ spec.freeze_code (values.heads_of heads.now.headers.now heads.now.shapes.now) tensor) }
 {
     let count = count_of(alloc, heads, tensor)?;
-    let mut codes = Items::new(alloc);
-    codes.push(Code::Freeze { tensor })?;
-    push_charge(&mut codes)?;
-    codes.push(Code::Charge(count))?;
-    Ok(Code::Seq(codes))
+    let mut frozen = Items::new(alloc);
+    frozen.push(Code::Freeze { tensor })?;
+    push_charge(&mut frozen)?;
+    frozen.push(Code::Charge(count))?;
+    Ok(Code::Seq(frozen))
 }
 
 /// The code of a thaw.
@@ -72,11 +72,11 @@ pub(crate) fn thaw_code(alloc: Global, heads: &Heads<'_>, tensor: u8) -> Result<
     ensures { IfOk result (λ c. c ≡ spec.thaw_code (values.heads_of heads.now.headers.now heads.now.shapes.now) tensor) }
 {
     let count = count_of(alloc, heads, tensor)?;
-    let mut codes = Items::new(alloc);
-    push_charge(&mut codes)?;
-    codes.push(Code::Charge(count))?;
-    codes.push(Code::Thaw { tensor })?;
-    Ok(Code::Seq(codes))
+    let mut thawed = Items::new(alloc);
+    push_charge(&mut thawed)?;
+    thawed.push(Code::Charge(count))?;
+    thawed.push(Code::Thaw { tensor })?;
+    Ok(Code::Seq(thawed))
 }
 
 fn count_of(alloc: Global, heads: &Heads<'_>, tensor: u8) -> Result<IExpr, AllocError>

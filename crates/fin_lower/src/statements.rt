@@ -152,17 +152,17 @@ fn loop_of(
     ensures { IfOk result (λ c. c ≡ spec.loop_over (slice_index_or sides.now.ranges.now var (0, 0)) var next body) }
 {
     let (lo, hi) = range_of(sides, var);
-    let mut codes = Items::new(alloc);
-    push_charge(&mut codes)?;
-    push_move(&mut codes, next, var)?;
-    codes.push(Code::ForLoop {
+    let mut looped = Items::new(alloc);
+    push_charge(&mut looped)?;
+    push_move(&mut looped, next, var)?;
+    looped.push(Code::ForLoop {
         var,
         lo: IExpr::Num(lo.min(hi) as i64),
         hi: IExpr::Num(hi as i64),
         body,
     })?;
-    push_move(&mut codes, var, next)?;
-    Ok(Code::Seq(codes))
+    push_move(&mut looped, var, next)?;
+    Ok(Code::Seq(looped))
 }
 
 // The range of a variable; that of a let is empty.
@@ -199,14 +199,14 @@ fn lower_cond(
     ensures code { IfOk result (λ c. c ≡ spec.cond_code (values.value_code (values.heads_of sides.now.heads.headers.now sides.now.heads.shapes.now) test.now next) (spec.code_of_all (spec.sides_over sides.now.heads.headers.now sides.now.heads.shapes.now sides.now.ranges.now) next body.now)) }
     ensures reach { OnOk result (most.new ≡ max most.old (max (room.end_of (values.value_code (values.heads_of sides.now.heads.headers.now sides.now.heads.shapes.now) test.now next)) (room.reach_of_all (values.heads_of sides.now.heads.headers.now sides.now.heads.shapes.now) next body.now))) }
 {
-    let mut codes = Items::new(alloc);
-    push_charge(&mut codes)?;
-    let test = push_valued(alloc, &mut codes, sides, test, next, most)?;
+    let mut tested = Items::new(alloc);
+    push_charge(&mut tested)?;
+    let test = push_valued(alloc, &mut tested, sides, test, next, most)?;
     let mut inner = Items::new(alloc);
     push_all(alloc, body, &mut inner, sides, next, most)?;
     let body = Boxed::new(alloc, Code::Seq(inner))?;
-    codes.push(Code::When { test, body })?;
-    Ok(Code::Seq(codes))
+    tested.push(Code::When { test, body })?;
+    Ok(Code::Seq(tested))
 }
 
 #[cycle(lowered)]
@@ -226,16 +226,16 @@ fn lower_bind(
     ensures reach { OnOk result (most.new ≡ max most.old (max (room.end_of (values.value_code (values.heads_of sides.now.heads.headers.now sides.now.heads.shapes.now) value.now (next + 1))) (room.reach_of_all (values.heads_of sides.now.heads.headers.now sides.now.heads.shapes.now) (next + 1) body.now))) }
 {
     let after = following(next)?;
-    let mut codes = Items::new(alloc);
-    push_charge(&mut codes)?;
-    push_move(&mut codes, next, var)?;
-    let value = push_valued(alloc, &mut codes, sides, value, after, most)?;
-    push(&mut codes, var, value)?;
+    let mut bound = Items::new(alloc);
+    push_charge(&mut bound)?;
+    push_move(&mut bound, next, var)?;
+    let value = push_valued(alloc, &mut bound, sides, value, after, most)?;
+    push(&mut bound, var, value)?;
     let mut inner = Items::new(alloc);
     push_all(alloc, body, &mut inner, sides, after, most)?;
-    codes.push(Code::Seq(inner))?;
-    push_move(&mut codes, var, next)?;
-    Ok(Code::Seq(codes))
+    bound.push(Code::Seq(inner))?;
+    push_move(&mut bound, var, next)?;
+    Ok(Code::Seq(bound))
 }
 
 fn lower_update(
@@ -252,18 +252,18 @@ fn lower_update(
     ensures code { IfOk result (λ c. c ≡ spec.update_code (values.heads_of sides.now.heads.headers.now sides.now.heads.shapes.now) tensor at.now by (values.value_code (values.heads_of sides.now.heads.headers.now sides.now.heads.shapes.now) value.now next)) }
     ensures reach { OnOk result (most.new ≡ max most.old (room.end_of (values.value_code (values.heads_of sides.now.heads.headers.now sides.now.heads.shapes.now) value.now next))) }
 {
-    let mut codes = Items::new(alloc);
-    let value = push_valued(alloc, &mut codes, sides, value, next, most)?;
+    let mut updated = Items::new(alloc);
+    let value = push_valued(alloc, &mut updated, sides, value, next, most)?;
     push_update(
         alloc,
-        &mut codes,
+        &mut updated,
         shape_of(&sides.heads, tensor),
         at,
         tensor,
         by,
         value,
     )?;
-    Ok(Code::Seq(codes))
+    Ok(Code::Seq(updated))
 }
 
 // Appends the code of an expression's reads, and gives its value.

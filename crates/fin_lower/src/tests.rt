@@ -107,12 +107,37 @@ fn turn(code: Option<&Code>, first: i64, end: i64) -> Option<&Code> {
 
 fn is_tested_update(code: Option<&Code>) -> bool {
     match code {
-        Some(
-            Code::When {
-                test: IExpr::Pick { test: _, yes: _, no: _ },
-                body,
-            },
-        ) => matches!(body.get(), Code::Update { tensor: 0, at: _, by: Reduce::Add, value: IExpr::Local(0) }),
+        Some(Code::When { test, body }) => is_pick(test) && is_update(body.get()),
+        _ => false,
+    }
+}
+
+fn is_pick(value: &IExpr) -> bool {
+    matches!(
+        value,
+        IExpr::Pick {
+            test: _,
+            yes: _,
+            no: _,
+        },
+    )
+}
+
+fn is_update(code: &Code) -> bool {
+    match code {
+        Code::Update {
+            tensor,
+            at,
+            by,
+            value,
+        } => *tensor == 0 && at.len() == 1 && *by == Reduce::Add && is_local(value, 0),
+        _ => false,
+    }
+}
+
+fn is_local(value: &IExpr, number: u32) -> bool {
+    match value {
+        IExpr::Local(local) => *local == number,
         _ => false,
     }
 }
