@@ -1,6 +1,6 @@
 -- Loops, tests and lets.
 use Rattle.std.proofs.Common.{◌≡◌, ℕ, ◌+◌, ◌-◌, ◌<◌, ◌≤◌, Bool, true, false, List, [], ◌∷◌, ◌++◌, map, length, length-set, Option, refl, sym, ap, ◌∙◌, subst, ℤ, pos, arith, inl, if◌then◌else◌}
-use Rattle.std.specs.Prelude.{slice_set}
+use Rattle.std.specs.Prelude.{min, slice_set}
 use Rattle.std.specs.Ordering.{int_eq}
 use Rattle.fin_tensor.specs.declared.storage.Storage.{Storage}
 use Rattle.fin_ast.specs.declared.checked.Checked.{Checked}
@@ -16,9 +16,8 @@ use Rattle.fin_ir.specs.declared.code.Code.TheVariants.{Seq, When, ForLoop, Assi
 use Rattle.fin_ir.specs.declared.expression.IExpr.TheVariants.{Num}
 use Rattle.fin_ir.specs.Machine.{Machine, seen, assign}
 use Rattle.fin_ir.specs.Value.{value_in, is_off}
-use Rattle.fin_ir.specs.Meaning.{meaning, meaning_all, for_loop, for_turns, span}
+use Rattle.fin_ir.specs.Meaning.{meaning, meaning_all, for_loop, for_turns}
 use Rattle.fin_ir.proofs.Codes.{meaning_seq, meaning_when, meaning_for_loop, meaning_assign}
-use Rattle.fin_ir.proofs.Loops.{span_is}
 use Rattle.fin_ir.proofs.Values.{value_num}
 use Rattle.fin_stage.specs.Staged.{Run, Action, regular, worked, braced, repeated, with_value, tensors_of, stage_of, stage_all}
 use Rattle.fin_stage.proofs.Equations.{stage_block, stage_loop, stage_cond, stage_bind}
@@ -30,6 +29,7 @@ use Rattle.fin_read.specs.Means.{ValuesMean}
 use Rattle.fin_lower.specs.Lowering.{charge_of, move_code, range_at, cond_code, bind_code, loop_code, code_of_stmt, code_of_all}
 use Rattle.fin_lower.specs.Room.{end_of, reach_of, reach_of_all}
 use Rattle.fin_lower.specs.Plans.{heads_in, sides_in, variables_in, layout_of}
+use Rattle.fin_lower.proofs.Capped.{capped_loop}
 use Rattle.fin_lower.proofs.Related.{Live, Related}
 use Rattle.fin_lower.proofs.Still.{stills, all_still}
 use Rattle.fin_lower.proofs.Pinning.{at, live_set, goes_on}
@@ -76,15 +76,12 @@ module _ (c : Checked) (inputs : List Storage) where
       subst (Related c inputs words _) (sym (meaning_seq (layout_of c) (charge_of 1 ∷ code_of_all (sides_in c) (length ps + 1) body) m))
       (inner_goes body all (within_loop sc var) (length ps + 1) words (slice_set vars var (pos v)) (worked 1 r) _ e (loop_placed c sc (length ps) var lt p) f (length-set vars var (pos v) ∙ long) agree (charged c inputs words r m 1 l) g)
 
-  spans : (lo hi : ℕ) → span (pos lo) (pos hi) ≡ hi - lo
-  spans lo hi = omega (arith, span_is (pos lo) (pos hi))
-
-  each_number : (var lo hi : ℕ) (turn : Code) (m : Machine) → meaning (layout_of c) (ForLoop var (Num (pos lo)) (Num (pos hi)) turn) m ≡ for_turns var (meaning (layout_of c) turn) (hi - lo) (pos lo) m
+  each_number : (var lo hi : ℕ) (turn : Code) (m : Machine) → meaning (layout_of c) (ForLoop var (Num (pos (min lo hi))) (Num (pos hi)) turn) m ≡ for_turns var (meaning (layout_of c) turn) (hi - lo) (pos lo) m
   each_number var lo hi turn m =
-      meaning_for_loop (layout_of c) var (Num (pos lo)) (Num (pos hi)) turn m
-      ∙ ap (λ (a : ℤ). for_loop var (meaning (layout_of c) turn) a (value_in m (Num (pos hi))) m) (value_num (seen m) m.locals (pos lo))
-      ∙ ap (λ (b : ℤ). for_loop var (meaning (layout_of c) turn) (pos lo) b m) (value_num (seen m) m.locals (pos hi))
-      ∙ ap (λ (n : ℕ). for_turns var (meaning (layout_of c) turn) n (pos lo) m) (spans lo hi)
+      meaning_for_loop (layout_of c) var (Num (pos (min lo hi))) (Num (pos hi)) turn m
+      ∙ ap (λ (a : ℤ). for_loop var (meaning (layout_of c) turn) a (value_in m (Num (pos hi))) m) (value_num (seen m) m.locals (pos (min lo hi)))
+      ∙ ap (λ (b : ℤ). for_loop var (meaning (layout_of c) turn) (pos (min lo hi)) b m) (value_num (seen m) m.locals (pos hi))
+      ∙ capped_loop var (meaning (layout_of c) turn) lo hi m
 
   pub loop_goes : (var : ℕ) (range : Option (ℕ × ℕ)) (par : Bool) (body : List Stmt) (line last : ℕ) → AllOf (Goes c inputs) body → Goes c inputs (s.Loop var range par body line last)
   loop_goes var range par body line last all sc ps vars r m p f long same l g =

@@ -22,7 +22,7 @@ use Rattle.fin_ir.proofs.Nodes.{of_num, of_local, of_seq, of_assign, of_when, of
 use Rattle.fin_stage.proofs.Alive.{left, right, both}
 use Rattle.fin_read.specs.Values.{Lowered, value_code, prelude}
 use Rattle.fin_read.specs.Means.{ValuesAreNamed}
-use Rattle.fin_lower.specs.Lowering.{charge_of, move_code, range_at, cond_code, bind_code, loop_code, code_of_stmt, code_of_all}
+use Rattle.fin_lower.specs.Lowering.{begin_of, charge_of, move_code, range_at, cond_code, bind_code, loop_code, code_of_stmt, code_of_all}
 use Rattle.fin_lower.specs.Room.{end_of, reach_of}
 use Rattle.fin_lower.specs.Plans.{heads_in, sides_in, variables_in, layout_of}
 use Rattle.fin_lower.proofs.Placed.{Placed, StmtFits, BodyFits, first_fits, rest_fits, loop_placed, let_placed, block_fits, loop_bound, loop_fits, cond_fits, test_named, test_room, bind_bound, bind_fits, value_named, value_room, code_block, code_loop, code_cond, code_bind}
@@ -99,9 +99,9 @@ module _ (c : Checked) where
       let turn_named : is_named l (Seq turn) ≡ true = named_seq l turn (one_more l (charge_of 1) (code_of_all (sides_in c) (next + 1) body) (charge_named l 1) (all_are_named body all (within_loop sc var) (next + 1) (loop_placed c sc next var lt p) inner)) in
       let ends : ℕ × ℕ = range_at (sides_in c) var in
       let tail : List Code = move_code var next ∷ [] in
-      let each : Code = ForLoop var (Num (pos ends.0)) (Num (pos ends.1)) (Seq turn) in
+      let each : Code = ForLoop var (Num (pos (begin_of ends))) (Num (pos ends.1)) (Seq turn) in
       let tail_named : list_all (is_named l) tail ≡ true = one_more l (move_code var next) [] (move_named l var next var_room next_room) refl in
-      let each_named : list_all (is_named l) (each ∷ tail) ≡ true = one_more l each tail (named_for l var ends.0 ends.1 (Seq turn) var_room turn_named) tail_named in
+      let each_named : list_all (is_named l) (each ∷ tail) ≡ true = one_more l each tail (named_for l var (begin_of ends) ends.1 (Seq turn) var_room turn_named) tail_named in
       let saved_named : list_all (is_named l) (move_code next var ∷ each ∷ tail) ≡ true = one_more l (move_code next var) (each ∷ tail) (move_named l next var next_room var_room) each_named in
       ap (is_named l) (code_loop (sides_in c) next var range par body line last)
       ∙ named_seq l (charge_of 1 ∷ move_code next var ∷ each ∷ tail) (one_more l (charge_of 1) (move_code next var ∷ each ∷ tail) (charge_named l 1) saved_named)

@@ -6,6 +6,12 @@
 //! work.
 #![tactic(auto)]
 
-mod plans;
+mod laws;
+mod plan;
+mod single;
+mod statements;
+#[cfg(test)]
+mod tests;
 
-pub use plans::lower;
+pub use laws::accepted_is_lowered;
+pub use plan::lower;
