@@ -2,7 +2,7 @@
 use Rattle.std.proofs.Common.{◌≡◌, ℕ, zero, suc, ◌+◌, ◌<◌, ◌≤◌, Bool, true, ◌&&◌, List, [], ◌∷◌, ◌++◌, map, length, Option, Some, None, refl, sym, ◌∙◌, subst, ℤ, pos, arith, nat_lt}
 use Rattle.std.specs.Prelude.{slice_get, ◌==◌}
 use Rattle.std.specs.List.{list_all}
-use Rattle.std.proofs.lemmas.Bool.Decides.{nat_tests}
+use Rattle.std.proofs.lemmas.Bool.{lt-ltb}
 use Rattle.fin_base.specs.declared.terms.Op.{Op}
 use Rattle.fin_base.specs.declared.terms.Op.TheVariants as op
 use Rattle.fin_tensor.specs.declared.format.Level.{Level}
@@ -19,7 +19,7 @@ use Rattle.fin_ir.specs.declared.expression.IExpr.{IExpr}
 use Rattle.fin_ir.specs.declared.expression.IExpr.TheVariants.{Num, Local, Neg, Two, Pick, Cell, Seek, Val}
 use Rattle.fin_ir.specs.Named.{has_local, has_tensor, expression_step, is_named_in, code_step, is_named}
 use Rattle.fin_ir.proofs.Nodes.{of_num, of_local, of_neg, of_two, of_pick, of_cell, of_seek, of_val, of_assign}
-use Rattle.fin_stage.proofs.Alive.{left, right, both}
+use Rattle.fin_stage.proofs.Alive.{left, right, both, holds_there}
 use Rattle.fin_read.specs.Steps.{Step, assign_of}
 use Rattle.fin_read.specs.Reads.{none, in_extent, in_box, fibre_begin, fibre_end, where_placed, sought, found, in_block, step_to, level_steps, levels_steps, last_step, read_steps}
 use Rattle.fin_read.specs.Counts.{below_level, count_from, count_code}
@@ -40,7 +40,7 @@ module _ (layout : Layout) where
   HasTensor tensor = has_tensor layout tensor ≡ true
 
   pub local_below : (local : ℕ) → local < layout.locals → HasLocal local
-  local_below local lt = grind (arith, nat_tests)
+  local_below local lt = lt-ltb local layout.locals lt
 
   -- ---- expressions of loop code
   pub num : (n : ℤ) → Named (Num n)
@@ -188,12 +188,6 @@ module _ (layout : Layout) where
 
 -- ---- expressions
 
--- a tensor whose header is found has one
-there : (test : Header → Bool) (hs : List Header) (tensor : ℕ) → holds_of test (slice_get hs tensor) ≡ true → tensor < length hs
-there test [] tensor e = absurd cc
-there test (x ∷ hs) zero e = omega arith
-there test (x ∷ hs) (suc tensor) e = omega (arith, there test hs tensor e)
-
 module _ (layout : Layout) (h : Heads) (s : Scope) (count : ℕ) (same : s.headers ≡ h.headers) (long : length h.headers ≤ length layout.formats) (within : IsWithin s count) where
   abbrev IsNamed : Lowered → Type 0
   IsNamed v = (list_all (is_named layout) (prelude v) ≡ true) × (is_named_in layout v.value ≡ true)
@@ -203,11 +197,9 @@ module _ (layout : Layout) (h : Heads) (s : Scope) (count : ℕ) (same : s.heade
 
   tensor_named : (tensor : ℕ) (test : Header → Bool) → holds_of test (slice_get s.headers tensor) ≡ true → has_tensor layout tensor ≡ true
   tensor_named tensor test e =
-      let lt = there test s.headers tensor e in
+      let lt = holds_there test s.headers tensor e in
       let few : length s.headers ≤ length layout.formats = subst (λ (hs : List Header). length hs ≤ length layout.formats) (sym same) long in
-      below_limit tensor (length layout.formats) (omega (arith, lt, few)) where
-        below_limit : (a b : ℕ) → a < b → nat_lt a b ≡ true
-        below_limit a b lt' = grind (arith, nat_tests)
+      lt-ltb tensor (length layout.formats) (omega (arith, lt, few))
 
   access : (tensor : ℕ) (at : List Index) (line : ℕ) → CodeIsNamed (e.Read tensor at line)
   access tensor at line next named low room =
