@@ -1,7 +1,8 @@
 -- The code of each statement does what the statement does, and names what the layout has.
 use Rattle.std.proofs.Common.{◌≡◌, ℕ, ◌+◌, ◌<◌, ◌≤◌, Bool, true, false, ◌&&◌, List, [], ◌∷◌, ◌++◌, map, length, refl, sym, ap, ◌∙◌, subst, ℤ, pos, arith, inl}
-use Rattle.std.specs.Prelude.{slice_get, nat_lt, suc}
-use Rattle.std.proofs.lemmas.Bool.Decides.{nat_tests}
+use Rattle.std.specs.Prelude.{slice_get}
+use Rattle.std.proofs.lemmas.Bool.{lt-ltb}
+use Rattle.std.proofs.lemmas.List.{length-map}
 use Rattle.std.specs.List.{list_all}
 use Rattle.fin_base.specs.declared.reduce.Reduce.{Reduce}
 use Rattle.fin_tensor.specs.declared.storage.Storage.{Storage}
@@ -42,12 +43,12 @@ use Rattle.fin_read.specs.Means.{IsWithin}
 use Rattle.fin_read.proofs.Counting.{counts_mean}
 use Rattle.fin_read.proofs.Indexing.{indices_are, loop_is_bound}
 use Rattle.fin_read.proofs.Naming.{local_below, box, count_named, indices_named, values_are_named}
+use Rattle.fin_read.proofs.Stepping.{agree_less, agree_then}
 use Rattle.fin_read.proofs.Valuing.{values_mean}
 use Rattle.fin_lower.specs.Lowering.{charge_of, count_of, declare_code, freeze_code, thaw_code, update_code, code_of_stmt}
 use Rattle.fin_lower.specs.Plans.{heads_in, sides_in, variables_in, layout_of}
 use Rattle.fin_lower.proofs.Related.{Live, Related}
 use Rattle.fin_lower.proofs.Seen.{all_seen}
-use Rattle.fin_lower.proofs.Pinning.{agree_less, agree_then}
 use Rattle.fin_lower.proofs.Placed.{Placed, StmtFits, declared_named, frozen_named, thawed_named, access_named, updating_named, updating_room, code_declare, code_freeze, code_thaw, code_update}
 use Rattle.fin_lower.proofs.Valued.{Asked, asked, all_append, Valued, value_goes, good, was_small}
 use Rattle.fin_lower.proofs.Bodies.{Goes}
@@ -103,7 +104,7 @@ module _ (c : Checked) (inputs : List Storage) (fits : FitHeaders c.program.head
           value_goes c inputs sees values_mean sc value ps vars r m p (updating_named c sc (length ps) tensor at by value line f) q.reads q.small long same (updating_room c sc (length ps) tensor at by value line f) l in
       let within : IsWithin sc (length vars) = subst (IsWithin sc) (sym long) p.within in
       let count_same : Agree (length vars) ps vars = subst (λ (n : ℕ). Agree n ps vars) (sym long) same in
-      let agree : Agree (length vars) m2.locals vars = agree_then (length vars) m2.locals ps vars (agree_less (length ps) (length vars) m2.locals ps (let a = p.after in omega (arith, long, a)) known.live.pinned) count_same in
+      let agree : Agree (length vars) m2.locals vars = agree_then (length vars) m2.locals ps vars (agree_less (length vars) (length ps) m2.locals ps (let a = p.after in omega (arith, long, a)) known.live.pinned) count_same in
       let access = access_named c sc (length ps) tensor at by value line f in
       let places : map (value_in m2) xs ≡ zs = indices_are (seen m2) sc vars within m2.locals agree at (right _ (list_all (is_index sc) at) access) small in
       let tail : List Code = When (in_box (shape_of (heads_in c) tensor) xs) (Update tensor xs by v.value) ∷ charge_of 1 ∷ [] in
@@ -132,14 +133,9 @@ module _ (c : Checked) where
   has_header : (test : Header → Bool) (sc : Scope) (t : ℕ) → sc.headers ≡ c.program.headers → holds_of test (slice_get sc.headers t) ≡ true → has_tensor (layout_of c) t ≡ true
   has_header test sc t e h =
       let lt = holds_there test c.program.headers t (subst (λ (hs : List Header). holds_of test (slice_get hs t) ≡ true) e h) in
-      below t (length (layout_of c).formats) (omega (arith, lt, lengths c.program.headers)) where
-    lengths : (hs : List Header) → length (map (λ (x : Header). x.format) hs) ≡ length hs
-    lengths [] = refl
-    lengths (x ∷ hs) = ap suc (lengths hs)
-    below : (a b : ℕ) → a < b → nat_lt a b ≡ true
-    below a b lt = grind (arith, nat_tests)
+      lt-ltb t (length (layout_of c).formats) (omega (arith, lt, length-map c.program.headers (λ (x : Header). x.format)))
 
-  pub declared_is_named : (tensor : ℕ) (value : ℤ) (line : ℕ) → Named c (s.Declare tensor value line)
+  declared_is_named : (tensor : ℕ) (value : ℤ) (line : ℕ) → Named c (s.Declare tensor value line)
   declared_is_named tensor value line sc next p f =
       let l : Layout = layout_of c in
       let work : ℕ = work_of_declaration (format_of (heads_in c) tensor).levels (shape_of (heads_in c) tensor) in
@@ -152,7 +148,7 @@ module _ (c : Checked) where
   count_charge : (tensor : ℕ) → has_tensor (layout_of c) tensor ≡ true → is_named (layout_of c) (Charge (count_of (heads_in c) tensor)) ≡ true
   count_charge tensor has = named_charge (layout_of c) (count_of (heads_in c) tensor) (count_named (layout_of c) tensor has (format_of (heads_in c) tensor).levels (shape_of (heads_in c) tensor))
 
-  pub frozen_is_named : (tensor line : ℕ) → Named c (s.Freeze tensor line)
+  frozen_is_named : (tensor line : ℕ) → Named c (s.Freeze tensor line)
   frozen_is_named tensor line sc next p f =
       let l : Layout = layout_of c in
       let has = has_header (λ (h : Header). true) sc tensor p.headers (frozen_named c sc next tensor line f) in
@@ -160,7 +156,7 @@ module _ (c : Checked) where
       let paid : list_all (is_named l) (charge_of 1 ∷ last ∷ []) ≡ true = one_more l (charge_of 1) (last ∷ []) (charge_named l 1) (one_more l last [] (count_charge tensor has) refl) in
       ap (is_named l) (code_freeze (sides_in c) next tensor line) ∙ named_seq l (Freeze tensor ∷ charge_of 1 ∷ last ∷ []) (one_more l (Freeze tensor) (charge_of 1 ∷ last ∷ []) (of_freeze Bool (code_step l) tensor ∙ has) paid)
 
-  pub thawed_is_named : (tensor line : ℕ) → Named c (s.Thaw tensor line)
+  thawed_is_named : (tensor line : ℕ) → Named c (s.Thaw tensor line)
   thawed_is_named tensor line sc next p f =
       let l : Layout = layout_of c in
       let has = has_header (λ (h : Header). true) sc tensor p.headers (thawed_named c sc next tensor line f) in
@@ -168,7 +164,7 @@ module _ (c : Checked) where
       let rest : list_all (is_named l) (count ∷ Thaw tensor ∷ []) ≡ true = one_more l count (Thaw tensor ∷ []) (count_charge tensor has) (one_more l (Thaw tensor) [] (of_thaw Bool (code_step l) tensor ∙ has) refl) in
       ap (is_named l) (code_thaw (sides_in c) next tensor line) ∙ named_seq l (charge_of 1 ∷ count ∷ Thaw tensor ∷ []) (one_more l (charge_of 1) (count ∷ Thaw tensor ∷ []) (charge_named l 1) rest)
 
-  pub updated_is_named : (tensor : ℕ) (at : List Index) (by : Reduce) (value : Expr) (line : ℕ) → Named c (s.Update tensor at by value line)
+  updated_is_named : (tensor : ℕ) (at : List Index) (by : Reduce) (value : Expr) (line : ℕ) → Named c (s.Update tensor at by value line)
   updated_is_named tensor at by value line sc next p f =
       let l : Layout = layout_of c in
       let access = access_named c sc next tensor at by value line f in

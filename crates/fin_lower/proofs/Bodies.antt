@@ -45,7 +45,7 @@ module _ (c : Checked) (inputs : List Storage) where
       (all_still (layout_of c) (code_of_all (sides_in c) (length ps) body)) first
       (λ l1. all_go body all.1 sc ps vars one _ p (rest_fits c x body sc (length ps) f) long same l1 g)
 
-  pub braced_go : (a : Action) (ps : List ℤ) (vars : Numbers) (r : Run) (m : Machine) → Related c inputs ps (a vars r) m → Related c inputs ps (braced a vars r) m
+  braced_go : (a : Action) (ps : List ℤ) (vars : Numbers) (r : Run) (m : Machine) → Related c inputs ps (a vars r) m → Related c inputs ps (braced a vars r) m
   braced_go a ps vars r m rel = related_on c inputs ps ps (a vars r) (braced a vars r) m (onward_closed r.stages (a vars r)) rel (live_closed c inputs r.stages ps (a vars r) m (onward_closed r.stages (a vars r)))
 
   -- a body in braces

@@ -6,7 +6,7 @@ use Rattle.fin_ir.specs.Machine.{Machine}
 use Rattle.fin_ir.specs.Meaning.{Action, for_loop, for_turns, span}
 use Rattle.fin_ir.proofs.Loops.{span_is}
 
-pub span_numbers : (lo hi : ℕ) → span (pos lo) (pos hi) ≡ hi - lo
+span_numbers : (lo hi : ℕ) → span (pos lo) (pos hi) ≡ hi - lo
 span_numbers lo hi = omega (arith, span_is (pos lo) (pos hi))
 
 module _ (var : ℕ) (body : Action) (lo hi : ℕ) (m : Machine) where

@@ -32,12 +32,13 @@ use Rattle.fin_lower.specs.Plans.{heads_in, sides_in, variables_in, layout_of}
 use Rattle.fin_lower.proofs.Capped.{capped_loop}
 use Rattle.fin_lower.proofs.Related.{Live, Related}
 use Rattle.fin_lower.proofs.Still.{stills, all_still}
-use Rattle.fin_lower.proofs.Pinning.{at, live_set, goes_on}
+use Rattle.fin_lower.proofs.Pinning.{at, SameBut, same_but_itself, same_but_set, agree_bound, live_set, goes_on}
 use Rattle.fin_lower.proofs.Placed.{Placed, StmtFits, BodyFits, loop_placed, let_placed, block_fits, loop_bound, loop_fits, cond_fits, test_named, test_room, bind_bound, bind_fits, value_named, value_room, code_block, code_loop, code_cond, code_bind}
 use Rattle.fin_lower.proofs.Valued.{Asked, asked, all_append, Valued, value_goes}
 use Rattle.fin_lower.proofs.Bodies.{Goes, BodyGoes, body_goes}
-use Rattle.fin_lower.proofs.Turns.{SameBut, same_but_itself, same_but_set, agree_bound, TurnGoes, Turned, turns_go}
-use Rattle.fin_lower.proofs.Saving.{room_low, with_saved, saved_length, saved_agree, charged, saved, restored}
+use Rattle.fin_lower.proofs.Turns.{TurnGoes, Turned, turns_go}
+use Rattle.fin_lower.proofs.Listing.{reach_least}
+use Rattle.fin_lower.proofs.Saving.{with_saved, saved_length, saved_agree, charged, saved, restored}
 
 -- the same place with more locals in use
 pub wider : (c : Checked) (sc : Scope) (n k : ℕ) → n ≤ k → Placed c sc n → Placed c sc k
@@ -88,7 +89,7 @@ module _ (c : Checked) (inputs : List Storage) where
       let ends : ℕ × ℕ = range_of (setting_of c inputs) var in
       let bound = loop_bound c sc (length ps) var range par body line last f in
       let inner : BodyFits c body (within_loop sc var) (length ps + 1) = loop_fits c sc (length ps) var range par body line last f in
-      let low = room_low (length ps + 1) (map (reach_of (heads_in c)) body) in
+      let low = reach_least (heads_in c) (length ps + 1) body in
       let room : length ps + 1 ≤ (layout_of c).locals = omega (arith, low, inner.room) in
       let first : var < length ps = omega (arith, bound.0, p.after) in
       let turn : Code = Seq (charge_of 1 ∷ code_of_all (sides_in c) (length ps + 1) body) in
@@ -150,7 +151,7 @@ module _ (c : Checked) (inputs : List Storage) where
         let q : Asked (setting_of c inputs) value vars after (worked 1 r) = asked (setting_of c inputs) value vars after (worked 1 r) on (sym (ap regular e) ∙ g) in
         let bound = bind_bound c sc (length ps) var value body line last f in
         let inner : BodyFits c body (within_let sc var) (length ps + 1) = bind_fits c sc (length ps) var value body line last f in
-        let low = room_low (length ps + 1) (map (reach_of (heads_in c)) body) in
+        let low = reach_least (heads_in c) (length ps + 1) body in
         let room : length ps + 1 ≤ (layout_of c).locals = omega (arith, low, inner.room) in
         let first : var < length ps = omega (arith, bound.0, p.after) in
         let base : List ℤ = with_saved ps var in

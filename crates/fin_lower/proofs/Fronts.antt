@@ -5,16 +5,7 @@ use Rattle.fin_tensor.specs.declared.format.Level.{Level}
 use Rattle.fin_tensor.specs.Placement.{is_dense}
 use Rattle.fin_tensor.specs.Extents.{dense_size}
 use Rattle.fin_stage.specs.Stages.{dense_front}
-
-all : (T : Type 0) (xs : List T) → take (length xs) xs ≡ xs
-all T [] = refl
-all T (x ∷ xs) = ap (λ (ys : List T). x ∷ ys) (all T xs)
-
-whole : (T : Type 0) (xs : List T) → take (length xs - 1) (drop 1 xs) ≡ drop 1 xs
-whole T [] = refl
-whole T (x ∷ xs) =
-    let same : length (x ∷ xs) - 1 ≡ length xs = omega arith in
-    ap (λ (n : ℕ). take n xs) same ∙ all T xs
+use Rattle.fin_read.proofs.Fronts.{take_rest}
 
 more : (k m : ℕ) → 1 ≤ k → m ≤ k * m
 more zero m h = absurd (omega (arith, h))
@@ -32,7 +23,7 @@ size_rest (l ∷ ls) (n ∷ ns) = most_one (is_dense l) n (dense_size ls ns)
 
 pub size_part : (ls : List Level) (ns : List ℕ) (m : ℕ) → dense_size ls ns ≤ m → dense_size (take (length ls - 1) (drop 1 ls)) (take (length ns - 1) (drop 1 ns)) ≤ m
 size_part ls ns m h =
-    let same : dense_size (take (length ls - 1) (drop 1 ls)) (take (length ns - 1) (drop 1 ns)) ≡ dense_size (drop 1 ls) (drop 1 ns) = ap (λ (x : List Level). dense_size x (take (length ns - 1) (drop 1 ns))) (whole Level ls) ∙ ap (λ (x : List ℕ). dense_size (drop 1 ls) x) (whole ℕ ns) in
+    let same : dense_size (take (length ls - 1) (drop 1 ls)) (take (length ns - 1) (drop 1 ns)) ≡ dense_size (drop 1 ls) (drop 1 ns) = ap (λ (x : List Level). dense_size x (take (length ns - 1) (drop 1 ns))) (take_rest ls) ∙ ap (λ (x : List ℕ). dense_size (drop 1 ls) x) (take_rest ns) in
     let below : dense_size (drop 1 ls) (drop 1 ns) ≤ dense_size ls ns = size_rest ls ns in
     omega (arith, same, below, h)
 

@@ -7,7 +7,6 @@ use Rattle.fin_ir.specs.declared.code.Code.{Code}
 use Rattle.fin_read.specs.Values.{Heads, heads_of}
 use Rattle.fin_lower.specs.Lowering.{Sides, code_of_stmt, code_of_all}
 use Rattle.fin_lower.specs.Room.{most, reach_of, reach_of_all}
-use Rattle.fin_lower.proofs.Saving.{room_low}
 
 -- the statements from i on are that one and those from the next on
 from_here : (body : List Stmt) (i : ℕ) (x : Stmt) → i < length body → x ≡ get_or body i x → drop i body ≡ x ∷ drop (i + 1) body
@@ -21,9 +20,16 @@ reach_next h next m body i x lt e = both_max m (reach_of h x next) (reach_of_all
   both_max : (a b c : ℕ) → max (max a b) c ≡ max a (max b c)
   both_max a b c = omega arith
 
--- statements need the locals before the first free one
+-- a list needs at least the locals before the first free one
+most_least : (next : ℕ) (reaches : List (ℕ → ℕ)) → next ≤ most next reaches
+most_least next [] = omega arith
+most_least next (r ∷ reaches) = omega (arith, most_least next reaches)
+
+pub reach_least : (h : Heads) (next : ℕ) (body : List Stmt) → next ≤ reach_of_all h next body
+reach_least h next body = most_least next (map (reach_of h) body)
+
 reach_over : (h : Heads) (next : ℕ) (body : List Stmt) → max next (reach_of_all h next body) ≡ reach_of_all h next body
-reach_over h next body = let under : next ≤ most next (map (reach_of h) body) = room_low next (map (reach_of h) body) in omega (arith, under)
+reach_over h next body = let under = reach_least h next body in omega (arith, under)
 
 -- as many as are needed, where no more were before
 pub reach_is : (hs hs' : List Header) (shapes shapes' : List (List ℕ)) (next n m before : ℕ) (body body' : List Stmt) → hs ≡ hs' → shapes ≡ shapes' → next ≡ n → body ≡ body' → before ≡ next → m ≡ max before (reach_of_all (heads_of hs shapes) next body) → m ≡ reach_of_all (heads_of hs' shapes') n body'

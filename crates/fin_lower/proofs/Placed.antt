@@ -2,6 +2,7 @@
 use Rattle.std.proofs.Common.{◌≡◌, ℕ, suc, ◌<◌, ◌≤◌, ◌+◌, ◌⊎◌, inl, inr, ⊎_elim, Bool, true, false, ◌&&◌, List, [], ◌∷◌, ◌++◌, map, length, Option, refl, sym, ap, ◌∙◌, subst, ℤ, arith}
 use Rattle.std.specs.Prelude.{max, nat_eq, ◌||◌, ◌==◌}
 use Rattle.std.specs.List.{list_any}
+use Rattle.std.proofs.lemmas.Bool.{eqb-true}
 use Rattle.std.proofs.lemmas.Bool.Decides.{nat_tests}
 use Rattle.fin_base.specs.declared.reduce.Reduce.{Reduce}
 use Rattle.fin_ast.specs.declared.checked.Checked.{Checked}
@@ -25,17 +26,14 @@ abbrev pub AllBelow : ℕ → List ℕ → Type 0
 AllBelow n [] = Unit {0}
 AllBelow n (v ∷ vs) = (v < n) × AllBelow n vs
 
-pub below_split : (n : ℕ) (a b : List ℕ) → AllBelow n (a ++ b) → AllBelow n a × AllBelow n b
+below_split : (n : ℕ) (a b : List ℕ) → AllBelow n (a ++ b) → AllBelow n a × AllBelow n b
 below_split n [] b h = (tt, h)
 below_split n (v ∷ a) b h = let rest = below_split n a b h.1 in ((h.0, rest.0), rest.1)
-
-equal : (a b : ℕ) → (a == b) ≡ true → a ≡ b
-equal a b e = grind (arith, nat_tests)
 
 pub counted_below : (n k : ℕ) (vs : List ℕ) → counts_from k vs ≡ true → k + length vs ≤ n → AllBelow n vs
 counted_below n k [] e le = tt
 counted_below n k (v ∷ vs) e le =
-    let same : v ≡ k = equal v k (left (v == k) (counts_from (k + 1) vs) e) in
+    let same : v ≡ k = eqb-true v k (left (v == k) (counts_from (k + 1) vs) e) in
     (omega (arith, same, le), counted_below n (k + 1) vs (right (v == k) (counts_from (k + 1) vs) e) (omega (arith, le)))
 
 -- the place of a statement whose first free local is `next`

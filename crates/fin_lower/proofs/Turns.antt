@@ -16,42 +16,12 @@ use Rattle.fin_read.specs.Steps.{Agree}
 use Rattle.fin_lower.specs.Plans.{variables_in, layout_of}
 use Rattle.fin_lower.proofs.Related.{Live, Related}
 use Rattle.fin_lower.proofs.Still.{Stills, stills, for_turns_still}
-use Rattle.fin_lower.proofs.Pinning.{at, alive, live_set, goes_on, related_on}
+use Rattle.fin_lower.proofs.Pinning.{SameBut, same_but_set, alive, live_as, live_set, goes_on}
 use Rattle.fin_lower.proofs.Valued.{regular_before}
-
--- lists of locals that are the same but for one
-pub record SameBut (var : ℕ) (ps qs : List ℤ) : Type 0 where
-  pub long : length ps ≡ length qs
-  pub same : (k : ℕ) → k ≢ var → at ps k ≡ at qs k
-
-pub same_but_itself : (var : ℕ) (ps : List ℤ) → SameBut var ps ps
-same_but_itself var ps = record { long = refl; same = λ k ne. refl }
-
-pub same_but_set : (var : ℕ) (v : ℤ) (ps qs : List ℤ) → SameBut var ps qs → SameBut var (slice_set ps var v) qs
-same_but_set var v ps qs s = record { long = length-set ps var v ∙ s.long; same = λ k ne. get_or-set_other ps var k v (pos 0) ne ∙ s.same k ne }
-
--- the variable is set in both
-pub agree_bound : (n var : ℕ) (v : ℤ) (ps qs : List ℤ) (vars : Numbers) → var < length ps → var < length vars → SameBut var ps qs → Agree n qs vars → Agree n (slice_set ps var v) (slice_set vars var v)
-agree_bound n var v ps qs vars hp hv s a k lt = ⊎_elim
-    (λ (e : k ≡ var). ap (at (slice_set ps var v)) e ∙ get_or-set_same ps var v (pos 0) hp ∙ sym (ap (at (slice_set vars var v)) e ∙ get_or-set_same vars var v (pos 0) hv))
-    (λ (ne : k ≢ var). get_or-set_other ps var k v (pos 0) ne ∙ s.same k ne ∙ a k lt ∙ sym (get_or-set_other vars var k v (pos 0) ne))
-    (cases_eq k var)
 
 module _ (c : Checked) (inputs : List Storage) where
   counted : (ps : List ℤ) (r : Run) (m : Machine) → Live c inputs ps r m → Live c inputs ps r (count_turn m)
-  counted ps r m l = subst (Live c inputs ps r) (sym (alive m (record m { turns = m.turns + 1 }) l.cut)) record {
-    cut = l.cut;
-    regular = l.regular;
-    shared = l.shared;
-    charges = l.charges;
-    locals = l.locals;
-    pinned = l.pinned;
-    tensors = l.tensors;
-    stages = l.stages;
-    each = l.each;
-    given = l.given;
-    fits = l.fits;
-  }
+  counted ps r m l = subst (Live c inputs ps r) (sym (alive m (record m { turns = m.turns + 1 }) l.cut)) (live_as c inputs ps ps m.locals r.work m.charges (m.turns + 1) r m l.charges refl l.pinned l)
 
   count_still : Stills count_turn
   count_still m e = ap (λ (b : Bool). if b then m else record m { turns = m.turns + 1 }) e

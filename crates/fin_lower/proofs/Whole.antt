@@ -1,5 +1,6 @@
 -- An accepted program, lowered.
 use Rattle.std.proofs.Common.{◌≡◌, ℕ, suc, ◌+◌, ◌<◌, ◌≤◌, ◌⊎◌, inl, inr, ⊎_elim, true, false, List, [], ◌∷◌, map, length, refl, sym, ap, ◌∙◌, subst, ℤ, pos, arith}
+use Rattle.std.proofs.lemmas.List.{length-map}
 use Rattle.fin_tensor.specs.declared.storage.Storage.{Storage}
 use Rattle.fin_tensor.specs.Canon.{undecorated}
 use Rattle.fin_ast.specs.declared.checked.Checked.{Checked}
@@ -34,10 +35,6 @@ use Rattle.fin_lower.proofs.Beginning.{begins, inputs_fit}
 use Rattle.fin_lower.proofs.Naming.{Named, named_seq, all_are_named}
 use Rattle.fin_lower.proofs.Beside.{goings, namings}
 
-length_map : {A B : Type 0} (f : A → B) (xs : List A) → length (map f xs) ≡ length xs
-length_map f [] = refl
-length_map f (x ∷ xs) = ap suc (length_map f xs)
-
 module _ (c : Checked) (inputs : List Storage) (accepted : IsAccepted c) (given_fit : FitProgram c inputs) where
   fits : FitHeaders c.program.headers c.dims
   fits = found_fit c.program accepted.shapes c.dims accepted.small accepted.extents
@@ -62,7 +59,7 @@ module _ (c : Checked) (inputs : List Storage) (accepted : IsAccepted c) (given_
       (all_are_named c c.program.body (all_by_kind (Named c) (namings c) c.program.body) (outermost c.program.headers) (variables_in c) placed body_fits)
 
   long : length (unbound c.dims) ≡ variables_in c
-  long = length_map (λ (r : ℕ × ℕ). pos 0) c.dims.ranges
+  long = length-map c.dims.ranges (λ (r : ℕ × ℕ). pos 0)
 
   sound : IsSound c inputs
   sound = accepted_is_sound c inputs accepted given_fit
