@@ -141,7 +141,7 @@ module _ (c : Checked) (inputs : List Storage) where
         (λ h. subst (Related c inputs ps (a vars (worked 1 r))) (sym (meaning_seq (layout_of c) codes m2)) (body_goes c inputs body all sc ps vars (worked 1 r) m2 p (cond_fits c sc (length ps) test body line last f) long same known.live h))
         (sym (ap regular (e ∙ q.is)) ∙ g))
 
-    -- the words that a let's body begins with: the variable has the value
+    -- a let's body begins with the value in the variable's local
     pub bind_goes : (var : ℕ) (value : Expr) (body : List Stmt) (line last : ℕ) → AllOf (Goes c inputs) body → Goes c inputs (s.Bind var value body line last)
     bind_goes var value body line last all sc ps vars r m p f long same l g =
         let a : Action = braced (stage_all (setting_of c inputs) body) in

@@ -2,7 +2,7 @@
 use Rattle.std.proofs.Common.{◌≡◌, ℕ, ◌+◌, ◌<◌, ◌≤◌, Bool, true, false, ◌&&◌, List, [], ◌∷◌, ◌++◌, map, length, Option, refl, sym, ap, ◌∙◌, subst, ℤ, pos, arith}
 use Rattle.std.specs.List.{list_all}
 use Rattle.std.proofs.lemmas.List.{length-map}
-use Rattle.std.proofs.lemmas.List.Folds.{list_all-append}
+use Rattle.std.proofs.lemmas.List.Folds.{list_all-append, list_all-map}
 use Rattle.fin_base.specs.declared.reduce.Reduce.{Reduce}
 use Rattle.fin_ast.specs.declared.header.Header.{Header}
 use Rattle.fin_ast.specs.declared.checked.Checked.{Checked}
@@ -31,12 +31,8 @@ use Rattle.fin_lower.proofs.Listing.{reach_least}
 -- ---- one node
 
 module _ (layout : Layout) where
-  each_named : (codes : List Code) → list_all (λ (b : Bool). b) (map (is_named layout) codes) ≡ list_all (is_named layout) codes
-  each_named [] = refl
-  each_named (x ∷ xs) = ap (λ (b : Bool). is_named layout x && b) (each_named xs)
-
   pub named_seq : (codes : List Code) → list_all (is_named layout) codes ≡ true → is_named layout (Seq codes) ≡ true
-  named_seq codes h = of_seq Bool (code_step layout) codes ∙ each_named codes ∙ h
+  named_seq codes h = of_seq Bool (code_step layout) codes ∙ list_all-map (λ (b : Bool). b) (is_named layout) codes ∙ h
 
   named_assign : (to : ℕ) (value : IExpr) → to < layout.locals → is_named_in layout value ≡ true → is_named layout (Assign to value) ≡ true
   named_assign to value lt h = of_assign Bool (code_step layout) to value ∙ both (has_local layout to) (is_named_in layout value) (local_below layout to lt) h

@@ -31,7 +31,7 @@ charge_of n = Charge (Num (pos n))
 abbrev pub declare_code : Heads → ℕ → Code
 declare_code h tensor = Seq (Declare tensor ∷ charge_of (work_of_declaration (format_of h tensor).levels (shape_of h tensor)) ∷ [])
 
--- the number of values of a tensor that is a storage
+-- the number of values of a tensor that is a storage: a freeze counts when it has become one, a thaw while it still is one
 abbrev pub count_of : Heads → ℕ → IExpr
 count_of h tensor = count_code tensor (format_of h tensor).levels (shape_of h tensor)
 
@@ -70,6 +70,7 @@ loop_code range var next body = loop_over range var next (Seq (charge_of 1 ∷ b
 
 -- ---- all statements
 
+-- the code of a statement, by its first free local
 abbrev pub Coded : Type 0
 Coded = ℕ → Code
 

@@ -1,3 +1,4 @@
+//! What the code of a program does.
 ghost use Rattle.fin_lower.specs.Lowered.{AcceptedIsLowered};
 
 /// The run of the code of a program that meets the checks, over inputs that fit it, is regular. Where it isn't cut, its

@@ -15,7 +15,7 @@ pub take_rest : {A : Type 0} (xs : List A) → take (length xs - 1) (drop 1 xs) 
 take_rest [] = refl
 take_rest (x ∷ xs) = take_all (length (x ∷ xs) - 1) xs (omega arith)
 
-pub small_rest : (ns : List ℕ) → AreSmall ns → AreSmall (drop 1 ns)
+small_rest : (ns : List ℕ) → AreSmall ns → AreSmall (drop 1 ns)
 small_rest [] h k lt = absurd (omega (arith, lt))
 small_rest (n ∷ ns) h k lt = h (suc k) (omega (arith, lt))
 

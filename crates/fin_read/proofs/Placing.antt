@@ -41,7 +41,7 @@ sub_below a b h k = sub_is a b (omega arith) h ∙ (let e : pos a -ℤ pos b ≡
 
 -- ---- tests
 
-pub off_truth : (b : Bool) {A : Type 0} (x y : A) → (if is_off (truth b) then y else x) ≡ (if b then x else y)
+off_truth : (b : Bool) {A : Type 0} (x y : A) → (if is_off (truth b) then y else x) ≡ (if b then x else y)
 off_truth true x y = refl
 off_truth false x y = refl
 
@@ -51,14 +51,14 @@ eq_is a b = elim (nat_eq a b) as (λ t. nat_eq a b ≡ t → int_eq (pos a) (pos
   | false ↦ (λ h. let e : a ≢ b = grind (arith, nat_tests) in grind (arith, ints))
 ] refl
 
-pub lt_zero : (a : ℕ) → int_lt (pos a) (pos 0) ≡ false
+lt_zero : (a : ℕ) → int_lt (pos a) (pos 0) ≡ false
 lt_zero a = grind (arith, nat_tests)
 
 -- ---- expressions
 
 module _ (ts : ℕ → Tensor) (ls : List ℤ) where
   -- a choice by a comparison
-  pub choice : (x y u v : IExpr) → value_of (e.Pick (e.Two op.Lt x y) u v) ts ls ≡ (if int_lt (value_of x ts ls) (value_of y ts ls) then value_of u ts ls else value_of v ts ls)
+  choice : (x y u v : IExpr) → value_of (e.Pick (e.Two op.Lt x y) u v) ts ls ≡ (if int_lt (value_of x ts ls) (value_of y ts ls) then value_of u ts ls else value_of v ts ls)
   choice x y u v =
       value_pick ts ls (e.Two op.Lt x y) u v
       ∙ ap (λ (z : ℤ). if is_off z then value_of v ts ls else value_of u ts ls) (value_two ts ls op.Lt x y)
