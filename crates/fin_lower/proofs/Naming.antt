@@ -1,16 +1,15 @@
 -- The layout of a program has each local and tensor that its code names.
-use Rattle.std.proofs.Common.{◌≡◌, ℕ, ◌+◌, ◌<◌, ◌≤◌, Bool, true, false, ◌&&◌, List, [], ◌∷◌, ◌++◌, map, length, Option, refl, sym, ap, ◌∙◌, subst, ℤ, pos, arith}
+use Rattle.std.proofs.Common.{◌≡◌, ℕ, ◌+◌, ◌<◌, ◌≤◌, Bool, true, ◌&&◌, List, [], ◌∷◌, ◌++◌, Option, refl, ap, ◌∙◌, pos, arith}
 use Rattle.std.specs.List.{list_all}
 use Rattle.std.proofs.lemmas.List.{length-map}
 use Rattle.std.proofs.lemmas.List.Folds.{list_all-append, list_all-map}
-use Rattle.fin_base.specs.declared.reduce.Reduce.{Reduce}
 use Rattle.fin_ast.specs.declared.header.Header.{Header}
 use Rattle.fin_ast.specs.declared.checked.Checked.{Checked}
 use Rattle.fin_ast.specs.declared.tree.Expr.{Expr}
 use Rattle.fin_ast.specs.declared.tree.Stmt.{Stmt}
 use Rattle.fin_ast.specs.declared.tree.Stmt.TheVariants as s
 use Rattle.fin_ast.specs.Scope.{Scope, within_loop, within_let, is_named_expr}
-use Rattle.fin_ast.proofs.Induction.{AllOf, Cases, all_by_kind}
+use Rattle.fin_ast.proofs.Induction.{AllOf}
 use Rattle.fin_ir.specs.declared.code.Code.{Code}
 use Rattle.fin_ir.specs.declared.code.Code.TheVariants.{Seq, Assign, When, ForLoop, Charge}
 use Rattle.fin_ir.specs.declared.expression.IExpr.{IExpr}
@@ -18,12 +17,12 @@ use Rattle.fin_ir.specs.declared.expression.IExpr.TheVariants.{Num, Local}
 use Rattle.fin_ir.specs.declared.layout.Layout.{Layout}
 use Rattle.fin_ir.specs.Named.{has_local, is_named_in, code_step, is_named}
 use Rattle.fin_ir.proofs.Nodes.{of_seq, of_assign, of_when, of_for_loop, of_charge}
-use Rattle.fin_stage.proofs.Alive.{left, right, both}
+use Rattle.fin_stage.proofs.Alive.{both}
 use Rattle.fin_read.specs.Values.{Lowered, value_code, prelude}
 use Rattle.fin_read.specs.Means.{ValuesAreNamed}
 use Rattle.fin_read.proofs.Naming.{local_below, num, local}
-use Rattle.fin_lower.specs.Lowering.{begin_of, charge_of, move_code, range_at, cond_code, bind_code, loop_code, code_of_stmt, code_of_all}
-use Rattle.fin_lower.specs.Room.{end_of, reach_of}
+use Rattle.fin_lower.specs.Lowering.{begin_of, charge_of, move_code, range_at, code_of_stmt, code_of_all}
+use Rattle.fin_lower.specs.Room.{end_of}
 use Rattle.fin_lower.specs.Plans.{heads_in, sides_in, variables_in, layout_of}
 use Rattle.fin_lower.proofs.Placed.{Placed, StmtFits, BodyFits, first_fits, rest_fits, loop_placed, let_placed, block_fits, loop_bound, loop_fits, cond_fits, test_named, test_room, bind_bound, bind_fits, value_named, value_room, code_block, code_loop, code_cond, code_bind}
 use Rattle.fin_lower.proofs.Listing.{reach_least}

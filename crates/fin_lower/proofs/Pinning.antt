@@ -1,5 +1,5 @@
 -- A machine that does what a run does, where its locals change.
-use Rattle.std.proofs.Common.{◌≡◌, ◌≢◌, ℕ, suc, ◌<◌, ◌≤◌, ◌+◌, ◌⊎◌, inl, inr, ⊎_elim, Bool, true, false, List, [], ◌∷◌, ◌++◌, length, length-set, get_or-set_same, get_or-set_other, refl, sym, ap, ◌∙◌, subst, ℤ, pos, arith}
+use Rattle.std.proofs.Common.{◌≡◌, ◌≢◌, ℕ, ◌<◌, ◌≤◌, inl, inr, ⊎_elim, Bool, false, List, [], ◌∷◌, ◌++◌, length, length-set, get_or-set_same, get_or-set_other, refl, sym, ap, ◌∙◌, subst, ℤ, pos, arith}
 use Rattle.std.specs.Prelude.{slice_index_or, slice_set, if◌then◌else◌}
 use Rattle.std.proofs.lemmas.Bool.{cases_eq}
 use Rattle.std.proofs.lemmas.List.{get_or_append_left, length-append}
@@ -10,7 +10,7 @@ use Rattle.fin_ast.specs.Dense.{setting_of}
 use Rattle.fin_ast.specs.Value.{Numbers}
 use Rattle.fin_ir.specs.Machine.{held, Machine, live, assign}
 use Rattle.fin_ir.specs.Meaning.{Action}
-use Rattle.fin_stage.specs.Stages.{Stage, Absent, Built, Frozen, stage_at, kept}
+use Rattle.fin_stage.specs.Stages.{Stage, Absent, stage_at, kept}
 use Rattle.fin_stage.specs.Staged.{Run, closed}
 use Rattle.fin_stage.specs.Fitting.{StageFits}
 use Rattle.fin_stage.proofs.Fits.{kept_cases}
@@ -49,8 +49,8 @@ agree_more : (ks ps : List ℤ) (v : ℤ) → length ps < length ks → Agree (l
 agree_more ks ps v h a k lt = ⊎_elim
     (λ (e : k ≡ length ps). ap (at (slice_set ks (length ps) v)) e ∙ get_or-set_same ks (length ps) v (pos 0) h ∙ sym (ap (at (ps ++ v ∷ [])) e ∙ get_or-append_seam ps v [] (pos 0)))
     (λ (ne : k ≢ length ps).
-        let below : k < length ps = omega (arith, lt, ne, length-append ps (v ∷ [])) in
-        get_or-set_other ks (length ps) k v (pos 0) ne ∙ a k below ∙ sym (get_or_append_left ps (v ∷ []) (pos 0) k below))
+    let below : k < length ps = omega (arith, lt, ne, length-append ps (v ∷ [])) in
+    get_or-set_other ks (length ps) k v (pos 0) ne ∙ a k below ∙ sym (get_or_append_left ps (v ∷ []) (pos 0) k below))
     (cases_eq k (length ps))
 
 -- ---- machines

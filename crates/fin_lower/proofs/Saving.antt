@@ -1,5 +1,5 @@
 -- A variable's local is saved behind the first ones, and is what it was at the end.
-use Rattle.std.proofs.Common.{◌≡◌, ◌≢◌, ℕ, suc, ◌+◌, ◌<◌, ◌≤◌, ⊎_elim, List, [], ◌∷◌, ◌++◌, length, length-set, get_or-set_same, get_or-set_other, refl, sym, ap, ◌∙◌, subst, ℤ, pos, arith, inl}
+use Rattle.std.proofs.Common.{◌≡◌, ◌≢◌, ℕ, ◌+◌, ◌<◌, ◌≤◌, ⊎_elim, List, [], ◌∷◌, ◌++◌, length, length-set, get_or-set_same, get_or-set_other, sym, ap, ◌∙◌, subst, ℤ, pos, arith, inl}
 use Rattle.std.specs.Prelude.{slice_set}
 use Rattle.std.proofs.lemmas.Bool.{cases_eq}
 use Rattle.std.proofs.lemmas.List.{get_or_append_left, length-append}
@@ -50,9 +50,9 @@ module _ (c : Checked) (inputs : List Storage) where
       let value : at m.locals (length ps) ≡ at ps var = l.pinned (length ps) (omega (arith, long)) ∙ s.same (length ps) apart ∙ get_or-append_seam ps (at ps var) [] (pos 0) in
       let put : Live c inputs (slice_set words var (at ps var)) r (assign var (at ps var) m) = live_set c inputs words r m var (at ps var) (omega (arith, lt, long)) room l in
       let agree : Agree (length ps) (slice_set words var (at ps var)) ps = λ k below. ⊎_elim
-          (λ (e : k ≡ var). ap (at (slice_set words var (at ps var))) e ∙ get_or-set_same words var (at ps var) (pos 0) (omega (arith, lt, long)) ∙ ap (at ps) (sym e))
-          (λ (ne : k ≢ var). get_or-set_other words var k (at ps var) (pos 0) ne ∙ s.same k ne ∙ get_or_append_left ps (at ps var ∷ []) (pos 0) k below)
-          (cases_eq k var) in
+      (λ (e : k ≡ var). ap (at (slice_set words var (at ps var))) e ∙ get_or-set_same words var (at ps var) (pos 0) (omega (arith, lt, long)) ∙ ap (at ps) (sym e))
+      (λ (ne : k ≢ var). get_or-set_other words var k (at ps var) (pos 0) ne ∙ s.same k ne ∙ get_or_append_left ps (at ps var ∷ []) (pos 0) k below)
+      (cases_eq k var) in
       subst (Live c inputs ps r) (sym (moves var (length ps) m ∙ ap (λ (v : ℤ). assign var v m) value))
       (live_less c inputs (slice_set words var (at ps var)) ps r (assign var (at ps var) m) (omega (arith, length-set words var (at ps var), long)) agree put)
 

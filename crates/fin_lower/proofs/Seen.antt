@@ -1,6 +1,6 @@
 -- What code sees as a storage of a function: inputs, and canonical storages that aren't too large.
 use Rattle.std.proofs.Common.{◌≡◌, ◌<◌, ◌≤◌, ℕ, true, false, List, [], ◌∷◌, length, Option, Some, None, refl, sym, ap, ◌∙◌, subst, ⊎_elim, ℤ, arith}
-use Rattle.std.specs.Prelude.{not, is_none, slice_get}
+use Rattle.std.specs.Prelude.{is_none, slice_get}
 use Rattle.std.specs.Option.{option_or}
 use Rattle.std.proofs.lemmas.Bool.{cases_lt, not-false}
 use Rattle.std.proofs.lemmas.List.{get_or_past}

@@ -1,19 +1,15 @@
 -- The turns of a loop.
-use Rattle.std.proofs.Common.{◌≡◌, ◌≢◌, ℕ, zero, suc, ◌+◌, ◌-◌, ◌<◌, ◌≤◌, ⊎_elim, Bool, true, false, List, [], ◌∷◌, ◌++◌, length, length-set, get_or-set_same, get_or-set_other, refl, sym, ap, ◌∙◌, subst, ℤ, pos, ◌+ℤ◌, arith, inl}
+use Rattle.std.proofs.Common.{◌≡◌, ℕ, zero, suc, ◌+◌, ◌<◌, ◌≤◌, Bool, true, List, length, refl, sym, ap, subst, ℤ, pos, arith, inl}
 use Rattle.std.specs.Prelude.{slice_set, if◌then◌else◌}
-use Rattle.std.proofs.lemmas.Bool.{cases_eq}
 use Rattle.fin_tensor.specs.declared.storage.Storage.{Storage}
 use Rattle.fin_ast.specs.declared.checked.Checked.{Checked}
-use Rattle.fin_ast.specs.Dense.{setting_of}
 use Rattle.fin_ast.specs.Value.{Numbers}
 use Rattle.fin_ir.specs.declared.code.Code.{Code}
-use Rattle.fin_ir.specs.declared.code.Code.TheVariants.{Seq}
 use Rattle.fin_ir.specs.Machine.{Machine, assign, count_turn}
 use Rattle.fin_ir.specs.Meaning.{meaning, for_turn, for_turns}
 use Rattle.fin_stage.specs.Staged.{Run, Action, regular, worked, repeated}
 use Rattle.fin_stage.proofs.Onward.{Onward, GoesOn, onward_worked, onward_still, onward_then, repeated_goes_on}
-use Rattle.fin_read.specs.Steps.{Agree}
-use Rattle.fin_lower.specs.Plans.{variables_in, layout_of}
+use Rattle.fin_lower.specs.Plans.{layout_of}
 use Rattle.fin_lower.proofs.Related.{Live, Related}
 use Rattle.fin_lower.proofs.Still.{Stills, stills, for_turns_still}
 use Rattle.fin_lower.proofs.Pinning.{SameBut, same_but_set, alive, live_as, live_set, goes_on}
@@ -56,5 +52,5 @@ module _ (c : Checked) (inputs : List Storage) where
         let first : Onward r one = onward_then r (worked 1 r) one (onward_worked 1 r) (on (slice_set vars var (pos lo)) (worked 1 r)) in
         let qs : List ℤ = slice_set ps var (pos lo) in
         let turned : Related c inputs qs one (for_turn var (meaning (layout_of c) turn) (pos lo) m) =
-            goes_on c inputs ps qs r one m (for_turn var (meaning (layout_of c) turn) (pos lo)) first (for_turns_still (meaning (layout_of c) turn) (stills (layout_of c) turn) var 1 (pos lo)) rel (λ l. one_turn ps lo r m s l (regular_before one _ rest g)) in
+        goes_on c inputs ps qs r one m (for_turn var (meaning (layout_of c) turn) (pos lo)) first (for_turns_still (meaning (layout_of c) turn) (stills (layout_of c) turn) var 1 (pos lo)) rel (λ l. one_turn ps lo r m s l (regular_before one _ rest g)) in
         turns_go n (lo + 1) qs one _ (same_but_set var (pos lo) ps base s) turned g

@@ -1,34 +1,30 @@
 -- An accepted program, lowered.
-use Rattle.std.proofs.Common.{◌≡◌, ℕ, suc, ◌+◌, ◌<◌, ◌≤◌, ◌⊎◌, inl, inr, ⊎_elim, true, false, List, [], ◌∷◌, map, length, refl, sym, ap, ◌∙◌, subst, ℤ, pos, arith}
+use Rattle.std.proofs.Common.{◌≡◌, ℕ, ◌+◌, ◌≤◌, ◌⊎◌, inl, inr, true, false, List, length, refl, sym, ap, subst, pos, arith}
 use Rattle.std.proofs.lemmas.List.{length-map}
 use Rattle.fin_tensor.specs.declared.storage.Storage.{Storage}
-use Rattle.fin_tensor.specs.Canon.{undecorated}
 use Rattle.fin_ast.specs.declared.checked.Checked.{Checked}
 use Rattle.fin_ast.specs.declared.checked.Dims.{Dims}
-use Rattle.fin_ast.specs.declared.tree.Stmt.{Stmt}
 use Rattle.fin_ast.specs.Accepted.{IsAccepted, FitProgram}
 use Rattle.fin_ast.specs.Bindings.{bindings_of_all}
 use Rattle.fin_ast.specs.Infer.{places_in}
 use Rattle.fin_ast.specs.Scope.{outermost}
 use Rattle.fin_ast.specs.Shaped.{FitHeaders}
 use Rattle.fin_ast.specs.Sizes.{ranges_of}
-use Rattle.fin_ast.specs.Dense.{function_of, setting_of, unbound}
+use Rattle.fin_ast.specs.Dense.{unbound}
 use Rattle.fin_ast.proofs.Fitting.{found_fit}
-use Rattle.fin_ast.proofs.Induction.{AllOf, all_by_kind}
-use Rattle.fin_ir.specs.Machine.{held, stored}
-use Rattle.fin_ir.specs.Meaning.{meaning, meaning_all}
+use Rattle.fin_ast.proofs.Induction.{all_by_kind}
+use Rattle.fin_ir.specs.Machine.{held}
+use Rattle.fin_ir.specs.Meaning.{meaning_all}
 use Rattle.fin_ir.specs.Named.{is_named}
 use Rattle.fin_ir.proofs.Codes.{meaning_seq}
-use Rattle.fin_stage.specs.Stages.{stage_at}
 use Rattle.fin_stage.specs.Staged.{before_all, staged}
 use Rattle.fin_stage.specs.Sound.{IsSound}
 use Rattle.fin_stage.proofs.Ranges.{ranges_count}
 use Rattle.fin_stage.proofs.Soundness.{accepted_is_sound}
-use Rattle.fin_read.specs.Steps.{Agree}
 use Rattle.fin_lower.specs.Lowering.{code_of_all}
 use Rattle.fin_lower.specs.Plans.{sides_in, variables_in, code_of, layout_of}
-use Rattle.fin_lower.specs.Lowered.{begun, ended, canon_of, IsWhole, IsCut, IsLowered, AcceptedIsLowered}
-use Rattle.fin_lower.proofs.Related.{Stand, Live, Over, Related}
+use Rattle.fin_lower.specs.Lowered.{begun, ended, IsWhole, IsCut, IsLowered, AcceptedIsLowered}
+use Rattle.fin_lower.proofs.Related.{Stand, Related}
 use Rattle.fin_lower.proofs.Placed.{Placed, BodyFits, counted_below}
 use Rattle.fin_lower.proofs.Bodies.{Goes, all_go}
 use Rattle.fin_lower.proofs.Beginning.{begins, inputs_fit}
