@@ -11,7 +11,6 @@ use Rattle.fin_tensor.specs.Placement.{IsBare}
 use Rattle.fin_tensor.specs.Canon.{undecorated}
 use Rattle.fin_ast.specs.declared.header.Header.{Header}
 use Rattle.fin_ast.specs.declared.checked.Checked.{Checked}
-use Rattle.fin_ast.specs.declared.tree.Stmt.{Stmt}
 use Rattle.fin_ast.specs.Kinds.{is_input}
 use Rattle.fin_ast.specs.Accepted.{inputs_among, HaveFormats, FitProgram}
 use Rattle.fin_ast.specs.Dense.{setting_of, unbound}
@@ -22,23 +21,14 @@ use Rattle.fin_ir.proofs.Fitting.{started_fits}
 use Rattle.fin_stage.specs.Stages.{Stage, Absent}
 use Rattle.fin_stage.specs.Staged.{before_all}
 use Rattle.fin_stage.proofs.Fits.{absent_at, nothing_fits}
-use Rattle.fin_read.specs.Values.{Heads}
-use Rattle.fin_lower.specs.Room.{most, reach_of, reach_of_all}
 use Rattle.fin_lower.specs.Plans.{kind_number, variables_in, heads_in, layout_of}
 use Rattle.fin_lower.specs.Lowered.{begun}
+use Rattle.fin_lower.proofs.Listing.{reach_least}
 use Rattle.fin_lower.proofs.Headed.{input_number, shapes_long}
 use Rattle.fin_lower.proofs.Given.{kinds_of}
 use Rattle.fin_lower.proofs.Related.{Stand, Live}
 
 -- ---- locals
-
-most_least : (next : ℕ) (reaches : List (ℕ → ℕ)) → next ≤ most next reaches
-most_least next [] = omega arith
-most_least next (r ∷ reaches) = omega (arith, most_least next reaches)
-
--- what code needs is at least what it doesn't use
-pub reach_least : (h : Heads) (next : ℕ) (body : List Stmt) → next ≤ reach_of_all h next body
-reach_least h next body = most_least next (map (reach_of h) body)
 
 -- there is a local for each variable
 pub variables_fit : (c : Checked) → variables_in c ≤ (layout_of c).locals

@@ -1,7 +1,8 @@
 -- The code of each statement does what the statement does, and names what the layout has.
-use Rattle.std.proofs.Common.{◌≡◌, ℕ, ◌+◌, ◌<◌, ◌≤◌, Bool, true, false, ◌&&◌, List, [], ◌∷◌, ◌++◌, map, length, refl, sym, ap, ◌∙◌, subst, ℤ, pos, arith, inl}
-use Rattle.std.specs.Prelude.{slice_get, nat_lt, suc}
-use Rattle.std.proofs.lemmas.Bool.Decides.{nat_tests}
+use Rattle.std.proofs.Common.{◌≡◌, ℕ, ◌<◌, Bool, true, ◌&&◌, List, [], ◌∷◌, ◌++◌, map, length, refl, sym, ap, ◌∙◌, subst, ℤ, arith}
+use Rattle.std.specs.Prelude.{slice_get}
+use Rattle.std.proofs.lemmas.Bool.{lt-ltb}
+use Rattle.std.proofs.lemmas.List.{length-map}
 use Rattle.std.specs.List.{list_all}
 use Rattle.fin_base.specs.declared.reduce.Reduce.{Reduce}
 use Rattle.fin_tensor.specs.declared.storage.Storage.{Storage}
@@ -9,27 +10,26 @@ use Rattle.fin_ast.specs.declared.header.Header.{Header}
 use Rattle.fin_ast.specs.declared.checked.Checked.{Checked}
 use Rattle.fin_ast.specs.declared.tree.Index.{Index}
 use Rattle.fin_ast.specs.declared.tree.Expr.{Expr}
-use Rattle.fin_ast.specs.declared.tree.Stmt.{Stmt}
 use Rattle.fin_ast.specs.declared.tree.Stmt.TheVariants as s
 use Rattle.fin_ast.specs.Accepted.{FitProgram}
 use Rattle.fin_ast.specs.Shaped.{FitHeaders}
 use Rattle.fin_ast.specs.Dense.{setting_of}
-use Rattle.fin_ast.specs.Scope.{Scope, holds_of, is_loop, is_index, is_declaration, is_tensor, is_access}
+use Rattle.fin_ast.specs.Scope.{Scope, holds_of, is_index}
 use Rattle.std.specs.Ordering.{int_eq}
-use Rattle.fin_ast.specs.Value.{Numbers, place, value_of}
-use Rattle.fin_ast.proofs.Induction.{AllOf, Cases, by_kind, all_by_kind}
+use Rattle.fin_ast.specs.Value.{place, value_of}
+use Rattle.fin_ast.proofs.Induction.{Cases}
 use Rattle.fin_ir.specs.declared.code.Code.{Code}
-use Rattle.fin_ir.specs.declared.code.Code.TheVariants.{Seq, When, Update, Declare, Freeze, Thaw, Charge}
+use Rattle.fin_ir.specs.declared.code.Code.TheVariants.{When, Update, Declare, Freeze, Thaw, Charge}
 use Rattle.fin_ir.specs.declared.expression.IExpr.{IExpr}
 use Rattle.fin_ir.specs.declared.layout.Layout.{Layout}
 use Rattle.fin_ir.specs.Machine.{Machine, seen}
 use Rattle.fin_ir.specs.Value.{value_in}
 use Rattle.fin_ir.specs.Meaning.{meaning, meaning_all}
-use Rattle.fin_ir.specs.Named.{has_local, has_tensor, is_named_in, code_step, is_named}
+use Rattle.fin_ir.specs.Named.{has_tensor, is_named_in, code_step, is_named}
 use Rattle.fin_ir.proofs.Codes.{meaning_seq}
 use Rattle.fin_ir.proofs.Nodes.{of_update, of_declare, of_freeze, of_thaw}
 use Rattle.fin_stage.specs.Stages.{work_of_declaration}
-use Rattle.fin_stage.specs.Staged.{Run, regular, declare, freeze, thaw, update, with_value, asked_for_small, are_small, tensors_of}
+use Rattle.fin_stage.specs.Staged.{Run, regular, update, asked_for_small, are_small, tensors_of}
 use Rattle.fin_stage.proofs.Alive.{left, right, both, holds_there}
 use Rattle.fin_stage.proofs.Equations.{stage_declare, stage_freeze, stage_thaw, stage_update}
 use Rattle.fin_stage.proofs.Onward.{Onward, onward_then, small_goes_on, update_goes_on}
@@ -42,18 +42,18 @@ use Rattle.fin_read.specs.Means.{IsWithin}
 use Rattle.fin_read.proofs.Counting.{counts_mean}
 use Rattle.fin_read.proofs.Indexing.{indices_are, loop_is_bound}
 use Rattle.fin_read.proofs.Naming.{local_below, box, count_named, indices_named, values_are_named}
+use Rattle.fin_read.proofs.Stepping.{agree_less, agree_then}
 use Rattle.fin_read.proofs.Valuing.{values_mean}
-use Rattle.fin_lower.specs.Lowering.{charge_of, count_of, declare_code, freeze_code, thaw_code, update_code, code_of_stmt}
-use Rattle.fin_lower.specs.Plans.{heads_in, sides_in, variables_in, layout_of}
-use Rattle.fin_lower.proofs.Related.{Live, Related}
+use Rattle.fin_lower.specs.Lowering.{charge_of, count_of}
+use Rattle.fin_lower.specs.Plans.{heads_in, sides_in, layout_of}
+use Rattle.fin_lower.proofs.Related.{Live}
 use Rattle.fin_lower.proofs.Seen.{all_seen}
-use Rattle.fin_lower.proofs.Pinning.{agree_less, agree_then}
-use Rattle.fin_lower.proofs.Placed.{Placed, StmtFits, declared_named, frozen_named, thawed_named, access_named, updating_named, updating_room, code_declare, code_freeze, code_thaw, code_update}
+use Rattle.fin_lower.proofs.Placed.{declared_named, frozen_named, thawed_named, access_named, updating_named, updating_room, code_declare, code_freeze, code_thaw, code_update}
 use Rattle.fin_lower.proofs.Valued.{Asked, asked, all_append, Valued, value_goes, good, was_small}
 use Rattle.fin_lower.proofs.Bodies.{Goes}
 use Rattle.fin_lower.proofs.Beginning.{variables_fit}
 use Rattle.fin_lower.proofs.Putting.{declare_goes, freeze_goes, thaw_goes}
-use Rattle.fin_lower.proofs.Updating.{put_code, update_goes}
+use Rattle.fin_lower.proofs.Updating.{update_goes}
 use Rattle.fin_lower.proofs.Control.{by_both, block_goes, loop_goes, cond_goes, bind_goes}
 use Rattle.fin_lower.proofs.Naming.{Named, named_seq, named_when, named_charge, charge_named, one_more, some_more, value_is_named, block_named, loop_named, cond_named, bind_named}
 
@@ -100,17 +100,17 @@ module _ (c : Checked) (inputs : List Storage) (fits : FitHeaders c.program.head
       let run : after z r ≡ update (setting_of c inputs) tensor zs by z r = ap (λ (b : Bool). update (setting_of c inputs) tensor zs by z (asked_for_small b r)) small in
       let m2 : Machine = meaning_all (layout_of c) (prelude v) m in
       let known : Valued c inputs sees values_mean ps r v z m2 =
-          value_goes c inputs sees values_mean sc value ps vars r m p (updating_named c sc (length ps) tensor at by value line f) q.reads q.small long same (updating_room c sc (length ps) tensor at by value line f) l in
+      value_goes c inputs sees values_mean sc value ps vars r m p (updating_named c sc (length ps) tensor at by value line f) q.reads q.small long same (updating_room c sc (length ps) tensor at by value line f) l in
       let within : IsWithin sc (length vars) = subst (IsWithin sc) (sym long) p.within in
       let count_same : Agree (length vars) ps vars = subst (λ (n : ℕ). Agree n ps vars) (sym long) same in
-      let agree : Agree (length vars) m2.locals vars = agree_then (length vars) m2.locals ps vars (agree_less (length ps) (length vars) m2.locals ps (let a = p.after in omega (arith, long, a)) known.live.pinned) count_same in
+      let agree : Agree (length vars) m2.locals vars = agree_then (length vars) m2.locals ps vars (agree_less (length vars) (length ps) m2.locals ps (let a = p.after in omega (arith, long, a)) known.live.pinned) count_same in
       let access = access_named c sc (length ps) tensor at by value line f in
       let places : map (value_in m2) xs ≡ zs = indices_are (seen m2) sc vars within m2.locals agree at (right _ (list_all (is_index sc) at) access) small in
       let tail : List Code = When (in_box (shape_of (heads_in c) tensor) xs) (Update tensor xs by v.value) ∷ charge_of 1 ∷ [] in
       let d = ap (λ (x : Code). meaning (layout_of c) x m) (code_update (sides_in c) (length ps) tensor at by value line)
-          ∙ meaning_seq (layout_of c) (prelude v ++ tail) m
-          ∙ all_append (layout_of c) (prelude v) tail m
-          ∙ sym (meaning_seq (layout_of c) tail m2) in
+      ∙ meaning_seq (layout_of c) (prelude v ++ tail) m
+      ∙ all_append (layout_of c) (prelude v) tail m
+      ∙ sym (meaning_seq (layout_of c) tail m2) in
       by_both c inputs ps _ _ _ _ (e ∙ q.is ∙ run) d
       (update_goes c inputs fits given_fit ps r m2 known.live tensor xs zs places by v.value z known.value (sym (ap regular run) ∙ fine))
 
@@ -132,14 +132,9 @@ module _ (c : Checked) where
   has_header : (test : Header → Bool) (sc : Scope) (t : ℕ) → sc.headers ≡ c.program.headers → holds_of test (slice_get sc.headers t) ≡ true → has_tensor (layout_of c) t ≡ true
   has_header test sc t e h =
       let lt = holds_there test c.program.headers t (subst (λ (hs : List Header). holds_of test (slice_get hs t) ≡ true) e h) in
-      below t (length (layout_of c).formats) (omega (arith, lt, lengths c.program.headers)) where
-    lengths : (hs : List Header) → length (map (λ (x : Header). x.format) hs) ≡ length hs
-    lengths [] = refl
-    lengths (x ∷ hs) = ap suc (lengths hs)
-    below : (a b : ℕ) → a < b → nat_lt a b ≡ true
-    below a b lt = grind (arith, nat_tests)
+      lt-ltb t (length (layout_of c).formats) (omega (arith, lt, length-map c.program.headers (λ (x : Header). x.format)))
 
-  pub declared_is_named : (tensor : ℕ) (value : ℤ) (line : ℕ) → Named c (s.Declare tensor value line)
+  declared_is_named : (tensor : ℕ) (value : ℤ) (line : ℕ) → Named c (s.Declare tensor value line)
   declared_is_named tensor value line sc next p f =
       let l : Layout = layout_of c in
       let work : ℕ = work_of_declaration (format_of (heads_in c) tensor).levels (shape_of (heads_in c) tensor) in
@@ -152,7 +147,7 @@ module _ (c : Checked) where
   count_charge : (tensor : ℕ) → has_tensor (layout_of c) tensor ≡ true → is_named (layout_of c) (Charge (count_of (heads_in c) tensor)) ≡ true
   count_charge tensor has = named_charge (layout_of c) (count_of (heads_in c) tensor) (count_named (layout_of c) tensor has (format_of (heads_in c) tensor).levels (shape_of (heads_in c) tensor))
 
-  pub frozen_is_named : (tensor line : ℕ) → Named c (s.Freeze tensor line)
+  frozen_is_named : (tensor line : ℕ) → Named c (s.Freeze tensor line)
   frozen_is_named tensor line sc next p f =
       let l : Layout = layout_of c in
       let has = has_header (λ (h : Header). true) sc tensor p.headers (frozen_named c sc next tensor line f) in
@@ -160,7 +155,7 @@ module _ (c : Checked) where
       let paid : list_all (is_named l) (charge_of 1 ∷ last ∷ []) ≡ true = one_more l (charge_of 1) (last ∷ []) (charge_named l 1) (one_more l last [] (count_charge tensor has) refl) in
       ap (is_named l) (code_freeze (sides_in c) next tensor line) ∙ named_seq l (Freeze tensor ∷ charge_of 1 ∷ last ∷ []) (one_more l (Freeze tensor) (charge_of 1 ∷ last ∷ []) (of_freeze Bool (code_step l) tensor ∙ has) paid)
 
-  pub thawed_is_named : (tensor line : ℕ) → Named c (s.Thaw tensor line)
+  thawed_is_named : (tensor line : ℕ) → Named c (s.Thaw tensor line)
   thawed_is_named tensor line sc next p f =
       let l : Layout = layout_of c in
       let has = has_header (λ (h : Header). true) sc tensor p.headers (thawed_named c sc next tensor line f) in
@@ -168,7 +163,7 @@ module _ (c : Checked) where
       let rest : list_all (is_named l) (count ∷ Thaw tensor ∷ []) ≡ true = one_more l count (Thaw tensor ∷ []) (count_charge tensor has) (one_more l (Thaw tensor) [] (of_thaw Bool (code_step l) tensor ∙ has) refl) in
       ap (is_named l) (code_thaw (sides_in c) next tensor line) ∙ named_seq l (charge_of 1 ∷ count ∷ Thaw tensor ∷ []) (one_more l (charge_of 1) (count ∷ Thaw tensor ∷ []) (charge_named l 1) rest)
 
-  pub updated_is_named : (tensor : ℕ) (at : List Index) (by : Reduce) (value : Expr) (line : ℕ) → Named c (s.Update tensor at by value line)
+  updated_is_named : (tensor : ℕ) (at : List Index) (by : Reduce) (value : Expr) (line : ℕ) → Named c (s.Update tensor at by value line)
   updated_is_named tensor at by value line sc next p f =
       let l : Layout = layout_of c in
       let access = access_named c sc next tensor at by value line f in

@@ -1,5 +1,5 @@
 -- Statements one after another, and bodies in braces.
-use Rattle.std.proofs.Common.{◌≡◌, ℕ, ◌≤◌, true, List, [], ◌∷◌, map, length, refl, sym, ap, ◌∙◌, subst, ℤ, inl}
+use Rattle.std.proofs.Common.{◌≡◌, true, List, [], ◌∷◌, length, ℤ, inl}
 use Rattle.fin_tensor.specs.declared.storage.Storage.{Storage}
 use Rattle.fin_ast.specs.declared.checked.Checked.{Checked}
 use Rattle.fin_ast.specs.declared.tree.Stmt.{Stmt}
@@ -9,8 +9,8 @@ use Rattle.fin_ast.specs.Value.{Numbers}
 use Rattle.fin_ast.proofs.Induction.{AllOf}
 use Rattle.fin_ir.specs.Machine.{Machine}
 use Rattle.fin_ir.specs.Meaning.{meaning, meaning_all}
-use Rattle.fin_stage.specs.Staged.{Run, Action, regular, braced, closed, stage_of, stage_all}
-use Rattle.fin_stage.proofs.Onward.{Onward, GoesOn, all_go_on, onward_closed}
+use Rattle.fin_stage.specs.Staged.{Run, Action, regular, braced, stage_of, stage_all}
+use Rattle.fin_stage.proofs.Onward.{Onward, all_go_on, onward_closed}
 use Rattle.fin_read.specs.Steps.{Agree}
 use Rattle.fin_lower.specs.Lowering.{code_of_stmt, code_of_all}
 use Rattle.fin_lower.specs.Plans.{sides_in, variables_in, layout_of}
@@ -40,12 +40,12 @@ module _ (c : Checked) (inputs : List Storage) where
       let one : Run = stage_of (setting_of c inputs) x vars r in
       let rest : Onward one (stage_all (setting_of c inputs) body vars one) = all_go_on (setting_of c inputs) body vars one in
       let first : Related c inputs ps one (meaning (layout_of c) (code_of_stmt (sides_in c) x (length ps)) m) =
-          all.0 sc ps vars r m p (first_fits c x body sc (length ps) f) long same l (regular_before one _ rest g) in
+      all.0 sc ps vars r m p (first_fits c x body sc (length ps) f) long same l (regular_before one _ rest g) in
       goes_on c inputs ps ps one _ (meaning (layout_of c) (code_of_stmt (sides_in c) x (length ps)) m) (meaning_all (layout_of c) (code_of_all (sides_in c) (length ps) body)) rest
       (all_still (layout_of c) (code_of_all (sides_in c) (length ps) body)) first
       (λ l1. all_go body all.1 sc ps vars one _ p (rest_fits c x body sc (length ps) f) long same l1 g)
 
-  pub braced_go : (a : Action) (ps : List ℤ) (vars : Numbers) (r : Run) (m : Machine) → Related c inputs ps (a vars r) m → Related c inputs ps (braced a vars r) m
+  braced_go : (a : Action) (ps : List ℤ) (vars : Numbers) (r : Run) (m : Machine) → Related c inputs ps (a vars r) m → Related c inputs ps (braced a vars r) m
   braced_go a ps vars r m rel = related_on c inputs ps ps (a vars r) (braced a vars r) m (onward_closed r.stages (a vars r)) rel (live_closed c inputs r.stages ps (a vars r) m (onward_closed r.stages (a vars r)))
 
   -- a body in braces

@@ -25,6 +25,7 @@ use Rattle.fin_stage.specs.Fitting.{StageFits}
 use Rattle.fin_lower.specs.Lowering.{charge_of}
 use Rattle.fin_lower.proofs.Related.{Stand, Live}
 use Rattle.fin_lower.proofs.Given.{given_is_input}
+use Rattle.fin_lower.proofs.Pinning.{live_as}
 
 -- ---- charges
 
@@ -42,21 +43,8 @@ number_pays layout n m live = charge_pays layout (Num (pos n)) n m live (value_n
 pub cut_pays : (layout : Layout) (e : IExpr) (m : Machine) → m.cut ≡ true → meaning layout (Charge e) m ≡ m
 cut_pays layout e m cut = meaning_charge layout e m ∙ ap (λ (b : Bool). if b then m else paid (whole (value_in m e)) m) cut
 
-module _ (c : Checked) (inputs : List Storage) (pins : List ℤ) (r : Run) (m : Machine) (live : Live c inputs pins r m) where
-  pub worked_live : (n : ℕ) → Live c inputs pins (worked n r) (paid n m)
-  worked_live n = record {
-    cut = live.cut;
-    regular = live.regular;
-    shared = live.shared;
-    charges = ap (λ (k : ℕ). k + n) live.charges;
-    locals = live.locals;
-    pinned = live.pinned;
-    tensors = live.tensors;
-    stages = live.stages;
-    each = live.each;
-    given = live.given;
-    fits = live.fits;
-  }
+pub worked_live : (c : Checked) (inputs : List Storage) (pins : List ℤ) (r : Run) (m : Machine) → Live c inputs pins r m → (n : ℕ) → Live c inputs pins (worked n r) (paid n m)
+worked_live c inputs pins r m live n = live_as c inputs pins pins m.locals (r.work + n) (m.charges + n) m.turns r m (ap (λ (k : ℕ). k + n) live.charges) refl live.pinned live
 
 -- ---- one tensor
 

@@ -1,6 +1,6 @@
 -- Loops, tests and lets.
-use Rattle.std.proofs.Common.{◌≡◌, ℕ, ◌+◌, ◌-◌, ◌<◌, ◌≤◌, Bool, true, false, List, [], ◌∷◌, ◌++◌, map, length, length-set, Option, refl, sym, ap, ◌∙◌, subst, ℤ, pos, arith, inl, if◌then◌else◌}
-use Rattle.std.specs.Prelude.{slice_set}
+use Rattle.std.proofs.Common.{◌≡◌, ℕ, ◌+◌, ◌-◌, ◌<◌, ◌≤◌, Bool, true, false, List, [], ◌∷◌, length, length-set, Option, sym, ap, ◌∙◌, subst, ℤ, pos, arith, inl, if◌then◌else◌}
+use Rattle.std.specs.Prelude.{min, slice_set}
 use Rattle.std.specs.Ordering.{int_eq}
 use Rattle.fin_tensor.specs.declared.storage.Storage.{Storage}
 use Rattle.fin_ast.specs.declared.checked.Checked.{Checked}
@@ -16,28 +16,28 @@ use Rattle.fin_ir.specs.declared.code.Code.TheVariants.{Seq, When, ForLoop, Assi
 use Rattle.fin_ir.specs.declared.expression.IExpr.TheVariants.{Num}
 use Rattle.fin_ir.specs.Machine.{Machine, seen, assign}
 use Rattle.fin_ir.specs.Value.{value_in, is_off}
-use Rattle.fin_ir.specs.Meaning.{meaning, meaning_all, for_loop, for_turns, span}
+use Rattle.fin_ir.specs.Meaning.{meaning, meaning_all, for_loop, for_turns}
 use Rattle.fin_ir.proofs.Codes.{meaning_seq, meaning_when, meaning_for_loop, meaning_assign}
-use Rattle.fin_ir.proofs.Loops.{span_is}
 use Rattle.fin_ir.proofs.Values.{value_num}
-use Rattle.fin_stage.specs.Staged.{Run, Action, regular, worked, braced, repeated, with_value, tensors_of, stage_of, stage_all}
+use Rattle.fin_stage.specs.Staged.{Run, Action, regular, worked, braced, repeated, tensors_of, stage_all}
 use Rattle.fin_stage.proofs.Equations.{stage_block, stage_loop, stage_cond, stage_bind}
 use Rattle.fin_stage.proofs.Onward.{Onward, onward_still, either_goes_on, braced_goes_on, all_go_on}
 use Rattle.fin_read.specs.Steps.{Agree}
 use Rattle.fin_read.specs.Values.{Lowered, value_code, prelude}
 use Rattle.fin_read.specs.Sees.{SeesAll}
 use Rattle.fin_read.specs.Means.{ValuesMean}
-use Rattle.fin_lower.specs.Lowering.{charge_of, move_code, range_at, cond_code, bind_code, loop_code, code_of_stmt, code_of_all}
-use Rattle.fin_lower.specs.Room.{end_of, reach_of, reach_of_all}
+use Rattle.fin_lower.specs.Lowering.{charge_of, move_code, code_of_all}
+use Rattle.fin_lower.specs.Room.{end_of}
 use Rattle.fin_lower.specs.Plans.{heads_in, sides_in, variables_in, layout_of}
+use Rattle.fin_lower.proofs.Capped.{capped_loop}
 use Rattle.fin_lower.proofs.Related.{Live, Related}
-use Rattle.fin_lower.proofs.Still.{stills, all_still}
-use Rattle.fin_lower.proofs.Pinning.{at, live_set, goes_on}
-use Rattle.fin_lower.proofs.Placed.{Placed, StmtFits, BodyFits, loop_placed, let_placed, block_fits, loop_bound, loop_fits, cond_fits, test_named, test_room, bind_bound, bind_fits, value_named, value_room, code_block, code_loop, code_cond, code_bind}
+use Rattle.fin_lower.proofs.Pinning.{SameBut, same_but_itself, same_but_set, agree_bound, live_set}
+use Rattle.fin_lower.proofs.Placed.{Placed, BodyFits, loop_placed, let_placed, block_fits, loop_bound, loop_fits, cond_fits, test_named, test_room, bind_bound, bind_fits, value_named, value_room, code_block, code_loop, code_cond, code_bind}
 use Rattle.fin_lower.proofs.Valued.{Asked, asked, all_append, Valued, value_goes}
-use Rattle.fin_lower.proofs.Bodies.{Goes, BodyGoes, body_goes}
-use Rattle.fin_lower.proofs.Turns.{SameBut, same_but_itself, same_but_set, agree_bound, TurnGoes, Turned, turns_go}
-use Rattle.fin_lower.proofs.Saving.{room_low, with_saved, saved_length, saved_agree, charged, saved, restored}
+use Rattle.fin_lower.proofs.Bodies.{Goes, body_goes}
+use Rattle.fin_lower.proofs.Turns.{TurnGoes, Turned, turns_go}
+use Rattle.fin_lower.proofs.Listing.{reach_least}
+use Rattle.fin_lower.proofs.Saving.{with_saved, saved_length, saved_agree, charged, saved, restored}
 
 -- the same place with more locals in use
 pub wider : (c : Checked) (sc : Scope) (n k : ℕ) → n ≤ k → Placed c sc n → Placed c sc k
@@ -72,26 +72,23 @@ module _ (c : Checked) (inputs : List Storage) where
       let e : length words ≡ length ps + 1 = length-set qs var (pos v) ∙ but.long ∙ saved_length ps var in
       let first : var < length qs = omega (arith, lt, p.after, but.long, saved_length ps var) in
       let agree : Agree (variables_in c) words (slice_set vars var (pos v)) =
-          agree_bound (variables_in c) var (pos v) qs (with_saved ps var) vars first (omega (arith, lt, long)) but (saved_agree (variables_in c) ps var vars p.after same) in
+      agree_bound (variables_in c) var (pos v) qs (with_saved ps var) vars first (omega (arith, lt, long)) but (saved_agree (variables_in c) ps var vars p.after same) in
       subst (Related c inputs words _) (sym (meaning_seq (layout_of c) (charge_of 1 ∷ code_of_all (sides_in c) (length ps + 1) body) m))
       (inner_goes body all (within_loop sc var) (length ps + 1) words (slice_set vars var (pos v)) (worked 1 r) _ e (loop_placed c sc (length ps) var lt p) f (length-set vars var (pos v) ∙ long) agree (charged c inputs words r m 1 l) g)
 
-  spans : (lo hi : ℕ) → span (pos lo) (pos hi) ≡ hi - lo
-  spans lo hi = omega (arith, span_is (pos lo) (pos hi))
-
-  each_number : (var lo hi : ℕ) (turn : Code) (m : Machine) → meaning (layout_of c) (ForLoop var (Num (pos lo)) (Num (pos hi)) turn) m ≡ for_turns var (meaning (layout_of c) turn) (hi - lo) (pos lo) m
+  each_number : (var lo hi : ℕ) (turn : Code) (m : Machine) → meaning (layout_of c) (ForLoop var (Num (pos (min lo hi))) (Num (pos hi)) turn) m ≡ for_turns var (meaning (layout_of c) turn) (hi - lo) (pos lo) m
   each_number var lo hi turn m =
-      meaning_for_loop (layout_of c) var (Num (pos lo)) (Num (pos hi)) turn m
-      ∙ ap (λ (a : ℤ). for_loop var (meaning (layout_of c) turn) a (value_in m (Num (pos hi))) m) (value_num (seen m) m.locals (pos lo))
-      ∙ ap (λ (b : ℤ). for_loop var (meaning (layout_of c) turn) (pos lo) b m) (value_num (seen m) m.locals (pos hi))
-      ∙ ap (λ (n : ℕ). for_turns var (meaning (layout_of c) turn) n (pos lo) m) (spans lo hi)
+      meaning_for_loop (layout_of c) var (Num (pos (min lo hi))) (Num (pos hi)) turn m
+      ∙ ap (λ (a : ℤ). for_loop var (meaning (layout_of c) turn) a (value_in m (Num (pos hi))) m) (value_num (seen m) m.locals (pos (min lo hi)))
+      ∙ ap (λ (b : ℤ). for_loop var (meaning (layout_of c) turn) (pos (min lo hi)) b m) (value_num (seen m) m.locals (pos hi))
+      ∙ capped_loop var (meaning (layout_of c) turn) lo hi m
 
   pub loop_goes : (var : ℕ) (range : Option (ℕ × ℕ)) (par : Bool) (body : List Stmt) (line last : ℕ) → AllOf (Goes c inputs) body → Goes c inputs (s.Loop var range par body line last)
   loop_goes var range par body line last all sc ps vars r m p f long same l g =
       let ends : ℕ × ℕ = range_of (setting_of c inputs) var in
       let bound = loop_bound c sc (length ps) var range par body line last f in
       let inner : BodyFits c body (within_loop sc var) (length ps + 1) = loop_fits c sc (length ps) var range par body line last f in
-      let low = room_low (length ps + 1) (map (reach_of (heads_in c)) body) in
+      let low = reach_least (heads_in c) (length ps + 1) body in
       let room : length ps + 1 ≤ (layout_of c).locals = omega (arith, low, inner.room) in
       let first : var < length ps = omega (arith, bound.0, p.after) in
       let turn : Code = Seq (charge_of 1 ∷ code_of_all (sides_in c) (length ps + 1) body) in
@@ -104,11 +101,11 @@ module _ (c : Checked) (inputs : List Storage) where
       let begun : Live c inputs base (worked 1 r) m2 = saved c inputs ps var (worked 1 r) m1 first (omega (arith, room)) (charged c inputs ps r m 1 l) in
       let long_base : length base ≡ length ps + 1 = saved_length ps var in
       let t : Turned c inputs var base (repeated (ends.1 - ends.0) ends.0 var a vars (worked 1 r)) m3 =
-          turns_go c inputs var base vars a turn (omega (arith, first, long_base)) (omega (arith, room, long_base)) (braced_goes_on (stage_all (setting_of c inputs) body) (all_go_on (setting_of c inputs) body))
-          (turn_goes body all sc ps vars var bound.0 p inner long same) (ends.1 - ends.0) ends.0 base (worked 1 r) m2 (same_but_itself var base) (inl begun) (sym (ap regular e) ∙ g) in
+      turns_go c inputs var base vars a turn (omega (arith, first, long_base)) (omega (arith, room, long_base)) (braced_goes_on (stage_all (setting_of c inputs) body) (all_go_on (setting_of c inputs) body))
+      (turn_goes body all sc ps vars var bound.0 p inner long same) (ends.1 - ends.0) ends.0 base (worked 1 r) m2 (same_but_itself var base) (inl begun) (sym (ap regular e) ∙ g) in
       let d = ap (λ (x : Code). meaning (layout_of c) x m) (code_loop (sides_in c) (length ps) var range par body line last)
-          ∙ meaning_seq (layout_of c) _ m
-          ∙ ap (meaning (layout_of c) (move_code var (length ps))) (each_number var ends.0 ends.1 turn m2) in
+      ∙ meaning_seq (layout_of c) _ m
+      ∙ ap (meaning (layout_of c) (move_code var (length ps))) (each_number var ends.0 ends.1 turn m2) in
       by_both ps _ _ _ _ e d (restored c inputs ps t.words var _ m3 first t.same (omega (arith, room, long_base, t.same.long)) t.related)
 
   -- ---- tests and lets
@@ -132,18 +129,18 @@ module _ (c : Checked) (inputs : List Storage) where
         let m1 : Machine = meaning (layout_of c) (charge_of 1) m in
         let m2 : Machine = meaning_all (layout_of c) (prelude v) m1 in
         let known : Valued c inputs sees values ps (worked 1 r) v z m2 =
-            value_goes c inputs sees values sc test ps vars (worked 1 r) m1 p (test_named c sc (length ps) test body line last f) q.reads q.small long same (test_room c sc (length ps) test body line last f) (charged c inputs ps r m 1 l) in
+        value_goes c inputs sees values sc test ps vars (worked 1 r) m1 p (test_named c sc (length ps) test body line last f) q.reads q.small long same (test_room c sc (length ps) test body line last f) (charged c inputs ps r m 1 l) in
         let d = ap (λ (x : Code). meaning (layout_of c) x m) (code_cond (sides_in c) (length ps) test body line last)
-            ∙ meaning_seq (layout_of c) _ m
-            ∙ all_append (layout_of c) (prelude v) (When v.value (Seq codes) ∷ []) m1
-            ∙ meaning_when (layout_of c) v.value (Seq codes) m2
-            ∙ ap (λ (x : ℤ). if is_off x then m2 else meaning (layout_of c) (Seq codes) m2) known.value in
+        ∙ meaning_seq (layout_of c) _ m
+        ∙ all_append (layout_of c) (prelude v) (When v.value (Seq codes) ∷ []) m1
+        ∙ meaning_when (layout_of c) v.value (Seq codes) m2
+        ∙ ap (λ (x : ℤ). if is_off x then m2 else meaning (layout_of c) (Seq codes) m2) known.value in
         by_both ps _ _ _ _ (e ∙ q.is) d
         (branch ps (int_eq z (pos 0)) (worked 1 r) (a vars (worked 1 r)) m2 (meaning (layout_of c) (Seq codes) m2) known.live
         (λ h. subst (Related c inputs ps (a vars (worked 1 r))) (sym (meaning_seq (layout_of c) codes m2)) (body_goes c inputs body all sc ps vars (worked 1 r) m2 p (cond_fits c sc (length ps) test body line last f) long same known.live h))
         (sym (ap regular (e ∙ q.is)) ∙ g))
 
-    -- the words that a let's body begins with: the variable has the value
+    -- a let's body begins with the value in the variable's local
     pub bind_goes : (var : ℕ) (value : Expr) (body : List Stmt) (line last : ℕ) → AllOf (Goes c inputs) body → Goes c inputs (s.Bind var value body line last)
     bind_goes var value body line last all sc ps vars r m p f long same l g =
         let a : Action = braced (stage_all (setting_of c inputs) body) in
@@ -153,7 +150,7 @@ module _ (c : Checked) (inputs : List Storage) where
         let q : Asked (setting_of c inputs) value vars after (worked 1 r) = asked (setting_of c inputs) value vars after (worked 1 r) on (sym (ap regular e) ∙ g) in
         let bound = bind_bound c sc (length ps) var value body line last f in
         let inner : BodyFits c body (within_let sc var) (length ps + 1) = bind_fits c sc (length ps) var value body line last f in
-        let low = room_low (length ps + 1) (map (reach_of (heads_in c)) body) in
+        let low = reach_least (heads_in c) (length ps + 1) body in
         let room : length ps + 1 ≤ (layout_of c).locals = omega (arith, low, inner.room) in
         let first : var < length ps = omega (arith, bound.0, p.after) in
         let base : List ℤ = with_saved ps var in
@@ -171,18 +168,18 @@ module _ (c : Checked) (inputs : List Storage) where
         let before : Agree (variables_in c) base vars = saved_agree (variables_in c) ps var vars p.after same in
         let enough : end_of (value_code (heads_in c) value (length base)) ≤ (layout_of c).locals = subst (λ (n : ℕ). end_of (value_code (heads_in c) value n) ≤ (layout_of c).locals) (sym long_base) (value_room c sc (length ps) var value body line last f) in
         let known : Valued c inputs sees values base (worked 1 r) v z m3 =
-            subst (λ (n : ℕ). Valued c inputs sees values base (worked 1 r) (value_code (heads_in c) value n) z (meaning_all (layout_of c) (prelude (value_code (heads_in c) value n)) m2)) long_base
-            (value_goes c inputs sees values sc value base vars (worked 1 r) m2 around (value_named c sc (length ps) var value body line last f) q.reads q.small long before enough begun) in
+        subst (λ (n : ℕ). Valued c inputs sees values base (worked 1 r) (value_code (heads_in c) value n) z (meaning_all (layout_of c) (prelude (value_code (heads_in c) value n)) m2)) long_base
+        (value_goes c inputs sees values sc value base vars (worked 1 r) m2 around (value_named c sc (length ps) var value body line last f) q.reads q.small long before enough begun) in
         let words : List ℤ = slice_set base var z in
         let put : Live c inputs words (worked 1 r) m4 =
-            subst (Live c inputs words (worked 1 r)) (sym (meaning_assign (layout_of c) var v.value m3 ∙ ap (λ (x : ℤ). assign var x m3) known.value))
-            (live_set c inputs base (worked 1 r) m3 var z (omega (arith, first, long_base)) (omega (arith, room, long_base)) known.live) in
+        subst (Live c inputs words (worked 1 r)) (sym (meaning_assign (layout_of c) var v.value m3 ∙ ap (λ (x : ℤ). assign var x m3) known.value))
+        (live_set c inputs base (worked 1 r) m3 var z (omega (arith, first, long_base)) (omega (arith, room, long_base)) known.live) in
         let but : SameBut var words base = same_but_set var z base base (same_but_itself var base) in
         let agree : Agree (variables_in c) words (slice_set vars var z) = agree_bound (variables_in c) var z base base vars (omega (arith, first, long_base)) (omega (arith, bound.0, long)) (same_but_itself var base) before in
         let done : Related c inputs words (a (slice_set vars var z) (worked 1 r)) m5 =
-            subst (Related c inputs words (a (slice_set vars var z) (worked 1 r))) (sym (meaning_seq (layout_of c) codes m4))
-            (inner_goes body all (within_let sc var) (length ps + 1) words (slice_set vars var z) (worked 1 r) m4 (but.long ∙ long_base) (let_placed c sc (length ps) var bound.0 p) inner (length-set vars var z ∙ long) agree put (sym (ap regular (e ∙ q.is)) ∙ g)) in
+        subst (Related c inputs words (a (slice_set vars var z) (worked 1 r))) (sym (meaning_seq (layout_of c) codes m4))
+        (inner_goes body all (within_let sc var) (length ps + 1) words (slice_set vars var z) (worked 1 r) m4 (but.long ∙ long_base) (let_placed c sc (length ps) var bound.0 p) inner (length-set vars var z ∙ long) agree put (sym (ap regular (e ∙ q.is)) ∙ g)) in
         let d = ap (λ (x : Code). meaning (layout_of c) x m) (code_bind (sides_in c) (length ps) var value body line last)
-            ∙ meaning_seq (layout_of c) _ m
-            ∙ all_append (layout_of c) (prelude v) (Assign var v.value ∷ Seq codes ∷ move_code var (length ps) ∷ []) m2 in
+        ∙ meaning_seq (layout_of c) _ m
+        ∙ all_append (layout_of c) (prelude v) (Assign var v.value ∷ Seq codes ∷ move_code var (length ps) ∷ []) m2 in
         by_both ps _ _ _ _ (e ∙ q.is) d (restored c inputs ps words var _ m5 first but (omega (arith, room, long_base, but.long)) done)

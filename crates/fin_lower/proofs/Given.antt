@@ -104,7 +104,7 @@ given_past (y ∷ hs) (s ∷ inputs) (suc t) e =
 
 module _ (c : Checked) (inputs : List Storage) (fits : FitHeaders c.program.headers c.dims) (given_fit : FitProgram c inputs) where
   -- where a run begins
-  pub begun_holds : (t : ℕ) (x : Header) → slice_get c.program.headers t ≡ Some x → IsBegun (is_input x.kind) x (slice_index_or c.dims.shapes t []) (made_at (setting_of c inputs).given t) (held (begun c inputs).tensors t)
+  begun_holds : (t : ℕ) (x : Header) → slice_get c.program.headers t ≡ Some x → IsBegun (is_input x.kind) x (slice_index_or c.dims.shapes t []) (made_at (setting_of c inputs).given t) (held (begun c inputs).tensors t)
   begun_holds = begun_from c.program.headers c.dims.shapes fits.shapes inputs 0 inputs refl given_fit
 
   -- a tensor that is given is an input

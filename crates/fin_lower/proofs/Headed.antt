@@ -1,7 +1,6 @@
 -- The headers of a program by number: what the layout has of each, and that each tensor can be built.
 use Rattle.std.proofs.Common.{◌≡◌, ◌<◌, ℕ, zero, suc, List, [], ◌∷◌, map, length, Option, Some, refl, ap, arith}
 use Rattle.std.specs.Prelude.{slice_get, slice_index_or, unwrap_or, option_map, nat_eq}
-use Rattle.fin_tensor.specs.declared.format.Format.{Format}
 use Rattle.fin_tensor.specs.Building.{CanBuild}
 use Rattle.fin_ast.specs.declared.header.Header.{Header}
 use Rattle.fin_ast.specs.declared.header.Kind.{Kind}
@@ -10,23 +9,21 @@ use Rattle.fin_ast.specs.Kinds.{is_input}
 use Rattle.fin_ast.specs.Shaped.{AreShaped}
 use Rattle.fin_ir.specs.Machine as machine
 use Rattle.fin_stage.specs.Staged.{no_format}
+use Rattle.fin_read.specs.Values.{heads_of, format_of, shape_of}
 use Rattle.fin_lower.specs.Plans.{kind_number}
-
-abbrev pub format_in : List Header → ℕ → Format
-format_in hs t = unwrap_or (option_map (λ (x : Header). x.format) (slice_get hs t)) no_format
 
 pub header_there : (hs : List Header) (t : ℕ) → t < length hs → (x : Header) × (slice_get hs t ≡ Some x)
 header_there [] t lt = absurd (omega arith)
 header_there (x ∷ hs) zero lt = (x, refl)
 header_there (x ∷ hs) (suc t) lt = header_there hs t (omega arith)
 
-pub formats_are : (hs : List Header) (t : ℕ) → slice_index_or (map (λ (x : Header). x.format) hs) t machine.no_format ≡ format_in hs t
-formats_are [] t = refl
-formats_are (x ∷ hs) zero = refl
-formats_are (x ∷ hs) (suc t) = formats_are hs t
+pub formats_are : (hs : List Header) (shapes : List (List ℕ)) (t : ℕ) → slice_index_or (map (λ (x : Header). x.format) hs) t machine.no_format ≡ format_of (heads_of hs shapes) t
+formats_are [] shapes t = refl
+formats_are (x ∷ hs) shapes zero = refl
+formats_are (x ∷ hs) shapes (suc t) = formats_are hs shapes t
 
-pub format_is : (hs : List Header) (t : ℕ) (x : Header) → slice_get hs t ≡ Some x → format_in hs t ≡ x.format
-format_is hs t x e = ap (λ (o : Option Header). unwrap_or (option_map (λ (y : Header). y.format) o) no_format) e
+pub format_is : (hs : List Header) (shapes : List (List ℕ)) (t : ℕ) (x : Header) → slice_get hs t ≡ Some x → format_of (heads_of hs shapes) t ≡ x.format
+format_is hs shapes t x e = ap (λ (o : Option Header). unwrap_or (option_map (λ (y : Header). y.format) o) no_format) e
 
 pub kind_is : (hs : List Header) (t : ℕ) (x : Header) → slice_get hs t ≡ Some x → slice_index_or (map (λ (y : Header). kind_number y.kind) hs) t 0 ≡ kind_number x.kind
 kind_is [] t x e = cc
@@ -44,7 +41,7 @@ shapes_long [] (n ∷ shapes) a = absurd a
 shapes_long (x ∷ hs) [] a = absurd a
 shapes_long (x ∷ hs) (n ∷ shapes) a = ap suc (shapes_long hs shapes a.1)
 
-pub builds_there : (hs : List Header) (shapes : List (List ℕ)) → AreShaped hs shapes → (t : ℕ) → t < length hs → CanBuild (format_in hs t) (slice_index_or shapes t [])
+pub builds_there : (hs : List Header) (shapes : List (List ℕ)) → AreShaped hs shapes → (t : ℕ) → t < length hs → CanBuild (format_of (heads_of hs shapes) t) (shape_of (heads_of hs shapes) t)
 builds_there [] shapes a t lt = absurd (omega arith)
 builds_there (x ∷ hs) [] a t lt = absurd a
 builds_there (x ∷ hs) (n ∷ shapes) a zero lt = a.0

@@ -1,10 +1,15 @@
 pub mod Beginning
+pub mod Beside
 pub mod Bodies
+pub mod Capped
 pub mod Changed
 pub mod Control
+pub mod Extents
+pub mod Fronts
 pub mod Given
 pub mod Headed
 pub mod Inside
+pub mod Listing
 pub mod Naming
 pub mod Pinning
 pub mod Placed
@@ -16,5 +21,4 @@ pub mod Still
 pub mod Turns
 pub mod Updating
 pub mod Valued
-pub mod Beside
 pub mod Whole

@@ -1,54 +1,43 @@
 -- The layout of a program has each local and tensor that its code names.
-use Rattle.std.proofs.Common.{◌≡◌, ℕ, ◌+◌, ◌<◌, ◌≤◌, Bool, true, false, ◌&&◌, List, [], ◌∷◌, ◌++◌, map, length, Option, refl, sym, ap, ◌∙◌, subst, ℤ, pos, arith}
-use Rattle.std.specs.Prelude.{nat_lt}
+use Rattle.std.proofs.Common.{◌≡◌, ℕ, ◌+◌, ◌<◌, ◌≤◌, Bool, true, ◌&&◌, List, [], ◌∷◌, ◌++◌, Option, refl, ap, ◌∙◌, pos, arith}
 use Rattle.std.specs.List.{list_all}
-use Rattle.std.proofs.lemmas.Bool.Decides.{nat_tests}
-use Rattle.std.proofs.lemmas.List.Folds.{list_all-append}
-use Rattle.fin_base.specs.declared.reduce.Reduce.{Reduce}
+use Rattle.std.proofs.lemmas.List.{length-map}
+use Rattle.std.proofs.lemmas.List.Folds.{list_all-append, list_all-map}
 use Rattle.fin_ast.specs.declared.header.Header.{Header}
 use Rattle.fin_ast.specs.declared.checked.Checked.{Checked}
 use Rattle.fin_ast.specs.declared.tree.Expr.{Expr}
 use Rattle.fin_ast.specs.declared.tree.Stmt.{Stmt}
 use Rattle.fin_ast.specs.declared.tree.Stmt.TheVariants as s
 use Rattle.fin_ast.specs.Scope.{Scope, within_loop, within_let, is_named_expr}
-use Rattle.fin_ast.proofs.Induction.{AllOf, Cases, all_by_kind}
+use Rattle.fin_ast.proofs.Induction.{AllOf}
 use Rattle.fin_ir.specs.declared.code.Code.{Code}
 use Rattle.fin_ir.specs.declared.code.Code.TheVariants.{Seq, Assign, When, ForLoop, Charge}
 use Rattle.fin_ir.specs.declared.expression.IExpr.{IExpr}
 use Rattle.fin_ir.specs.declared.expression.IExpr.TheVariants.{Num, Local}
 use Rattle.fin_ir.specs.declared.layout.Layout.{Layout}
-use Rattle.fin_ir.specs.Named.{has_local, expression_step, is_named_in, code_step, is_named}
-use Rattle.fin_ir.proofs.Nodes.{of_num, of_local, of_seq, of_assign, of_when, of_for_loop, of_charge}
-use Rattle.fin_stage.proofs.Alive.{left, right, both}
+use Rattle.fin_ir.specs.Named.{has_local, is_named_in, code_step, is_named}
+use Rattle.fin_ir.proofs.Nodes.{of_seq, of_assign, of_when, of_for_loop, of_charge}
+use Rattle.fin_stage.proofs.Alive.{both}
 use Rattle.fin_read.specs.Values.{Lowered, value_code, prelude}
 use Rattle.fin_read.specs.Means.{ValuesAreNamed}
-use Rattle.fin_lower.specs.Lowering.{charge_of, move_code, range_at, cond_code, bind_code, loop_code, code_of_stmt, code_of_all}
-use Rattle.fin_lower.specs.Room.{end_of, reach_of}
+use Rattle.fin_read.proofs.Naming.{local_below, num, local}
+use Rattle.fin_lower.specs.Lowering.{begin_of, charge_of, move_code, range_at, code_of_stmt, code_of_all}
+use Rattle.fin_lower.specs.Room.{end_of}
 use Rattle.fin_lower.specs.Plans.{heads_in, sides_in, variables_in, layout_of}
 use Rattle.fin_lower.proofs.Placed.{Placed, StmtFits, BodyFits, first_fits, rest_fits, loop_placed, let_placed, block_fits, loop_bound, loop_fits, cond_fits, test_named, test_room, bind_bound, bind_fits, value_named, value_room, code_block, code_loop, code_cond, code_bind}
-use Rattle.fin_lower.proofs.Saving.{room_low}
+use Rattle.fin_lower.proofs.Listing.{reach_least}
 
 -- ---- one node
 
 module _ (layout : Layout) where
-  each_named : (codes : List Code) → list_all (λ (b : Bool). b) (map (is_named layout) codes) ≡ list_all (is_named layout) codes
-  each_named [] = refl
-  each_named (x ∷ xs) = ap (λ (b : Bool). is_named layout x && b) (each_named xs)
-
   pub named_seq : (codes : List Code) → list_all (is_named layout) codes ≡ true → is_named layout (Seq codes) ≡ true
-  named_seq codes h = of_seq Bool (code_step layout) codes ∙ each_named codes ∙ h
+  named_seq codes h = of_seq Bool (code_step layout) codes ∙ list_all-map (λ (b : Bool). b) (is_named layout) codes ∙ h
 
-  pub named_assign : (local : ℕ) (value : IExpr) → local < layout.locals → is_named_in layout value ≡ true → is_named layout (Assign local value) ≡ true
-  named_assign local value lt h = of_assign Bool (code_step layout) local value ∙ both (has_local layout local) (is_named_in layout value) (grind (arith, nat_tests)) h
+  named_assign : (to : ℕ) (value : IExpr) → to < layout.locals → is_named_in layout value ≡ true → is_named layout (Assign to value) ≡ true
+  named_assign to value lt h = of_assign Bool (code_step layout) to value ∙ both (has_local layout to) (is_named_in layout value) (local_below layout to lt) h
 
   pub named_when : (test : IExpr) (body : Code) → is_named_in layout test ≡ true → is_named layout body ≡ true → is_named layout (When test body) ≡ true
   named_when test body h k = of_when Bool (code_step layout) test body ∙ both (is_named_in layout test) (is_named layout body) h k
-
-  pub named_num : (n : ℤ) → is_named_in layout (Num n) ≡ true
-  named_num n = of_num Bool (expression_step layout) n
-
-  pub named_local : (local : ℕ) → local < layout.locals → is_named_in layout (Local local) ≡ true
-  named_local local lt = of_local Bool (expression_step layout) local ∙ grind (arith, nat_tests)
 
   pub named_charge : (value : IExpr) → is_named_in layout value ≡ true → is_named layout (Charge value) ≡ true
   named_charge value h = of_charge Bool (code_step layout) value ∙ h
@@ -57,13 +46,13 @@ module _ (layout : Layout) where
   named_for var lo hi body lt h =
       of_for_loop Bool (code_step layout) var (Num (pos lo)) (Num (pos hi)) body
       ∙ both (has_local layout var && is_named_in layout (Num (pos lo)) && is_named_in layout (Num (pos hi))) (is_named layout body)
-      (both (has_local layout var && is_named_in layout (Num (pos lo))) (is_named_in layout (Num (pos hi))) (both (has_local layout var) (is_named_in layout (Num (pos lo))) (grind (arith, nat_tests)) (named_num (pos lo))) (named_num (pos hi))) h
+      (both (has_local layout var && is_named_in layout (Num (pos lo))) (is_named_in layout (Num (pos hi))) (both (has_local layout var) (is_named_in layout (Num (pos lo))) (local_below layout var lt) (num layout (pos lo))) (num layout (pos hi))) h
 
   pub charge_named : (n : ℕ) → is_named layout (charge_of n) ≡ true
-  charge_named n = named_charge (Num (pos n)) (named_num (pos n))
+  charge_named n = named_charge (Num (pos n)) (num layout (pos n))
 
   move_named : (to source : ℕ) → to < layout.locals → source < layout.locals → is_named layout (move_code to source) ≡ true
-  move_named to source lt h = named_assign to (Local source) lt (named_local source h)
+  move_named to source lt h = named_assign to (Local source) lt (local layout source (local_below layout source h))
 
   pub one_more : (x : Code) (xs : List Code) → is_named layout x ≡ true → list_all (is_named layout) xs ≡ true → list_all (is_named layout) (x ∷ xs) ≡ true
   one_more x xs h k = both (is_named layout x) (list_all (is_named layout) xs) h k
@@ -90,7 +79,7 @@ module _ (c : Checked) where
       let l : Layout = layout_of c in
       let lt = (loop_bound c sc next var range par body line last f).0 in
       let inner : BodyFits c body (within_loop sc var) (next + 1) = loop_fits c sc next var range par body line last f in
-      let low = room_low (next + 1) (map (reach_of (heads_in c)) body) in
+      let low = reach_least (heads_in c) (next + 1) body in
       let room : next + 1 ≤ l.locals = omega (arith, low, inner.room) in
       let after = p.after in
       let var_room : var < l.locals = omega (arith, lt, after, room) in
@@ -99,9 +88,9 @@ module _ (c : Checked) where
       let turn_named : is_named l (Seq turn) ≡ true = named_seq l turn (one_more l (charge_of 1) (code_of_all (sides_in c) (next + 1) body) (charge_named l 1) (all_are_named body all (within_loop sc var) (next + 1) (loop_placed c sc next var lt p) inner)) in
       let ends : ℕ × ℕ = range_at (sides_in c) var in
       let tail : List Code = move_code var next ∷ [] in
-      let each : Code = ForLoop var (Num (pos ends.0)) (Num (pos ends.1)) (Seq turn) in
+      let each : Code = ForLoop var (Num (pos (begin_of ends))) (Num (pos ends.1)) (Seq turn) in
       let tail_named : list_all (is_named l) tail ≡ true = one_more l (move_code var next) [] (move_named l var next var_room next_room) refl in
-      let each_named : list_all (is_named l) (each ∷ tail) ≡ true = one_more l each tail (named_for l var ends.0 ends.1 (Seq turn) var_room turn_named) tail_named in
+      let each_named : list_all (is_named l) (each ∷ tail) ≡ true = one_more l each tail (named_for l var (begin_of ends) ends.1 (Seq turn) var_room turn_named) tail_named in
       let saved_named : list_all (is_named l) (move_code next var ∷ each ∷ tail) ≡ true = one_more l (move_code next var) (each ∷ tail) (move_named l next var next_room var_room) each_named in
       ap (is_named l) (code_loop (sides_in c) next var range par body line last)
       ∙ named_seq l (charge_of 1 ∷ move_code next var ∷ each ∷ tail) (one_more l (charge_of 1) (move_code next var ∷ each ∷ tail) (charge_named l 1) saved_named)
@@ -111,10 +100,7 @@ module _ (c : Checked) where
   module _ (values : ValuesAreNamed) where
     pub value_is_named : (sc : Scope) (next : ℕ) (e : Expr) → Placed c sc next → is_named_expr e sc ≡ true → end_of (value_code (heads_in c) e next) ≤ (layout_of c).locals
         → (list_all (is_named (layout_of c)) (prelude (value_code (heads_in c) e next)) ≡ true) × (is_named_in (layout_of c) (value_code (heads_in c) e next).value ≡ true)
-    value_is_named sc next e p named room = values (layout_of c) (heads_in c) sc (variables_in c) e next p.headers (lengths c.program.headers) p.within named p.after room where
-      lengths : (hs : List Header) → length hs ≤ length (map (λ (x : Header). x.format) hs)
-      lengths [] = omega arith
-      lengths (x ∷ hs) = let rest = lengths hs in omega (arith, rest)
+    value_is_named sc next e p named room = values (layout_of c) (heads_in c) sc (variables_in c) e next p.headers (omega (arith, length-map c.program.headers (λ (x : Header). x.format))) p.within named p.after room
 
     pub cond_named : (test : Expr) (body : List Stmt) (line last : ℕ) → AllOf Named body → Named (s.Cond test body line last)
     cond_named test body line last all sc next p f =
@@ -133,7 +119,7 @@ module _ (c : Checked) where
         let l : Layout = layout_of c in
         let lt = (bind_bound c sc next var value body line last f).0 in
         let inner : BodyFits c body (within_let sc var) (next + 1) = bind_fits c sc next var value body line last f in
-        let low = room_low (next + 1) (map (reach_of (heads_in c)) body) in
+        let low = reach_least (heads_in c) (next + 1) body in
         let room : next + 1 ≤ l.locals = omega (arith, low, inner.room) in
         let after = p.after in
         let var_room : var < l.locals = omega (arith, lt, after, room) in

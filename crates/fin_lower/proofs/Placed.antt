@@ -1,7 +1,7 @@
 -- Statements in their place: what their names stand for, and that there are locals for them.
-use Rattle.std.proofs.Common.{◌≡◌, ℕ, suc, ◌<◌, ◌≤◌, ◌+◌, ◌⊎◌, inl, inr, ⊎_elim, Bool, true, false, ◌&&◌, List, [], ◌∷◌, ◌++◌, map, length, Option, refl, sym, ap, ◌∙◌, subst, ℤ, arith}
+use Rattle.std.proofs.Common.{◌≡◌, ℕ, ◌<◌, ◌≤◌, ◌+◌, ◌⊎◌, inl, inr, ⊎_elim, Bool, true, false, ◌&&◌, List, [], ◌∷◌, ◌++◌, length, Option, refl, sym, ap, ◌∙◌, subst, ℤ, arith}
 use Rattle.std.specs.Prelude.{max, nat_eq, ◌||◌, ◌==◌}
-use Rattle.std.specs.List.{list_any}
+use Rattle.std.proofs.lemmas.Bool.{eqb-true}
 use Rattle.std.proofs.lemmas.Bool.Decides.{nat_tests}
 use Rattle.fin_base.specs.declared.reduce.Reduce.{Reduce}
 use Rattle.fin_ast.specs.declared.checked.Checked.{Checked}
@@ -9,15 +9,15 @@ use Rattle.fin_ast.specs.declared.tree.Index.{Index}
 use Rattle.fin_ast.specs.declared.tree.Expr.{Expr}
 use Rattle.fin_ast.specs.declared.tree.Stmt.{Stmt}
 use Rattle.fin_ast.specs.declared.tree.Stmt.TheVariants as s
-use Rattle.fin_ast.specs.Scope.{Scope, within_loop, within_let, is_among, is_bound, is_tensor, is_declaration, is_access, is_named_expr, stmt_step, is_named, are_named}
+use Rattle.fin_ast.specs.Scope.{Scope, within_loop, within_let, is_among, is_tensor, is_declaration, is_access, is_named_expr, stmt_step, is_named, are_named}
 use Rattle.fin_ast.specs.Bindings.{bindings_step, bindings_of, bindings_of_all, counts_from}
 use Rattle.fin_ast.proofs.Nodes.{of_block, of_loop, of_cond, of_bind, of_declare, of_freeze, of_thaw, of_update}
 use Rattle.fin_ir.specs.declared.code.Code.TheVariants.{Seq}
 use Rattle.fin_stage.proofs.Alive.{left, right}
 use Rattle.fin_read.specs.Means.{IsWithin}
-use Rattle.fin_read.specs.Values.{Heads, value_code}
+use Rattle.fin_read.specs.Values.{value_code}
 use Rattle.fin_lower.specs.Lowering.{Sides, Coded, range_at, declare_code, freeze_code, thaw_code, update_code, cond_code, bind_code, loop_code, lower_step, code_of_stmt, code_of_all}
-use Rattle.fin_lower.specs.Room.{end_of, most, reach_step, reach_of, reach_of_all}
+use Rattle.fin_lower.specs.Room.{end_of, reach_step, reach_of, reach_of_all}
 use Rattle.fin_lower.specs.Plans.{heads_in, variables_in, layout_of}
 
 -- each variable is below a number
@@ -25,17 +25,14 @@ abbrev pub AllBelow : ℕ → List ℕ → Type 0
 AllBelow n [] = Unit {0}
 AllBelow n (v ∷ vs) = (v < n) × AllBelow n vs
 
-pub below_split : (n : ℕ) (a b : List ℕ) → AllBelow n (a ++ b) → AllBelow n a × AllBelow n b
+below_split : (n : ℕ) (a b : List ℕ) → AllBelow n (a ++ b) → AllBelow n a × AllBelow n b
 below_split n [] b h = (tt, h)
 below_split n (v ∷ a) b h = let rest = below_split n a b h.1 in ((h.0, rest.0), rest.1)
-
-equal : (a b : ℕ) → (a == b) ≡ true → a ≡ b
-equal a b e = grind (arith, nat_tests)
 
 pub counted_below : (n k : ℕ) (vs : List ℕ) → counts_from k vs ≡ true → k + length vs ≤ n → AllBelow n vs
 counted_below n k [] e le = tt
 counted_below n k (v ∷ vs) e le =
-    let same : v ≡ k = equal v k (left (v == k) (counts_from (k + 1) vs) e) in
+    let same : v ≡ k = eqb-true v k (left (v == k) (counts_from (k + 1) vs) e) in
     (omega (arith, same, le), counted_below n (k + 1) vs (right (v == k) (counts_from (k + 1) vs) e) (omega (arith, le)))
 
 -- the place of a statement whose first free local is `next`

@@ -1,7 +1,7 @@
 -- Declarations, freezes and thaws.
 use Rattle.std.proofs.Common.{◌≡◌, ◌<◌, ◌+◌, ◌^◌, ℕ, Bool, true, false, ◌&&◌, List, [], ◌∷◌, length, if◌then◌else◌, refl, sym, ap, ◌∙◌, subst, inl, inr, ℤ, pos, arith}
 use Rattle.std.specs.Prelude.{slice_get, nat_lt, nat_le, nat_eq, not}
-use Rattle.std.proofs.lemmas.Bool.Decides.{nat_tests}
+use Rattle.std.proofs.lemmas.Bool.{lt-ltb, not-true}
 use Rattle.std.proofs.lemmas.List.{length-map, get_or-set_same}
 use Rattle.fin_tensor.specs.declared.format.Format.{Format}
 use Rattle.fin_tensor.specs.declared.format.Level.{Level}
@@ -41,7 +41,7 @@ use Rattle.fin_lower.specs.Lowered.{canon_of}
 use Rattle.fin_lower.proofs.Related.{unchanged, Stand, Live, Over, Related}
 use Rattle.fin_lower.proofs.Headed.{formats_are, kind_is, input_number, shapes_long, builds_there}
 use Rattle.fin_lower.proofs.Given.{made_is_other}
-use Rattle.fin_lower.proofs.Seen.{canon_valid, seen_held, stage_there}
+use Rattle.fin_lower.proofs.Seen.{few_of, canon_valid, seen_held, stage_there}
 use Rattle.fin_lower.proofs.Changed.{paid, charge_pays, number_pays, cut_pays, worked_live, changed_to, changed_live, built_is_made, made_by}
 
 -- the two tests of sizes are one
@@ -50,29 +50,18 @@ allowed_is_few [] fill ns fs = refl
 allowed_is_few (l ∷ ls) fill [] fs = refl
 allowed_is_few (l ∷ ls) fill (n ∷ ns) fs = ap (λ (b : Bool). nat_le (length fs) (2 ^ 40) && b) (allowed_is_few ls fill ns (next (kept l fill n ns) fs))
 
-few_or_not : (b : Bool) → not b ≡ false → b ≡ true
-few_or_not true e = refl
-few_or_not false e = cc
-
-few_not : (b : Bool) → not b ≡ true → b ≡ false
-few_not true e = cc
-few_not false e = refl
-
-pub storing_small : (b : Building) → is_large b ≡ false → work_of_storing b.format b.function ≡ 1 + length (canon b).val
+storing_small : (b : Building) → is_large b ≡ false → work_of_storing b.format b.function ≡ 1 + length (canon b).val
 storing_small b e =
-    let few = few_or_not (are_few b.format.levels b.function.fill b.function.shape (value_at b.function ∷ [])) e in
+    let few = few_of b e in
     ap (λ (t : Bool). if t then 1 + length (canon b).val else 2 ^ 40 + 1) (allowed_is_few b.format.levels b.function.fill b.function.shape (value_at b.function ∷ []) ∙ few)
 
-pub storing_large : (b : Building) → is_large b ≡ true → work_of_storing b.format b.function ≡ 2 ^ 40 + 1
+storing_large : (b : Building) → is_large b ≡ true → work_of_storing b.format b.function ≡ 2 ^ 40 + 1
 storing_large b e =
-    let few = few_not (are_few b.format.levels b.function.fill b.function.shape (value_at b.function ∷ [])) e in
+    let few = not-true (are_few b.format.levels b.function.fill b.function.shape (value_at b.function ∷ [])) e in
     ap (λ (t : Bool). if t then 1 + length (canon b).val else 2 ^ 40 + 1) (allowed_is_few b.format.levels b.function.fill b.function.shape (value_at b.function ∷ []) ∙ few)
 
 paid_twice : (a b : ℕ) (m : Machine) → paid b (paid a m) ≡ paid (a + b) m
 paid_twice a b m = let e : m.charges + a + b ≡ m.charges + (a + b) = omega arith in ap (λ (k : ℕ). record m { charges = k }) e
-
-below : (a b : ℕ) → a < b → nat_lt a b ≡ true
-below a b h = grind (arith, nat_tests)
 
 module _ (c : Checked) (inputs : List Storage) (fits : FitHeaders c.program.headers c.dims) (given_fit : FitProgram c inputs) where
   abbrev w : Setting
@@ -88,9 +77,9 @@ module _ (c : Checked) (inputs : List Storage) (fits : FitHeaders c.program.head
   pub declares : (t : ℕ) → t < length c.program.headers → is_made w t ≡ true → can_declare (layout_of c) t ≡ true
   declares t lt made =
       let can : CanBuild (format_at w t) (shape_at w t) = builds_there c.program.headers c.dims.shapes fits.shapes t lt in
-      let builds : can_build (machine.format_at (layout_of c) t) (machine.shape_at (layout_of c) t) ≡ true = ap (λ (f : Format). can_build f (shape_at w t)) (formats_are c.program.headers t) ∙ of_builds (format_at w t) (shape_at w t) can in
-      let formats : nat_lt t (length (layout_of c).formats) ≡ true = below _ _ (omega (arith, lt, length-map c.program.headers (λ (x : Header). x.format))) in
-      let shapes : nat_lt t (length (layout_of c).shapes) ≡ true = below _ _ (omega (arith, lt, shapes_long c.program.headers c.dims.shapes fits.shapes)) in
+      let builds : can_build (machine.format_at (layout_of c) t) (machine.shape_at (layout_of c) t) ≡ true = ap (λ (f : Format). can_build f (shape_at w t)) (formats_are c.program.headers c.dims.shapes t) ∙ of_builds (format_at w t) (shape_at w t) can in
+      let formats : nat_lt t (length (layout_of c).formats) ≡ true = lt-ltb _ _ (omega (arith, lt, length-map c.program.headers (λ (x : Header). x.format))) in
+      let shapes : nat_lt t (length (layout_of c).shapes) ≡ true = lt-ltb _ _ (omega (arith, lt, shapes_long c.program.headers c.dims.shapes fits.shapes)) in
       let is_made = made_in_layout t lt made in
       rw (is_made, formats, shapes, builds) refl
 
@@ -110,7 +99,7 @@ module _ (c : Checked) (inputs : List Storage) (fits : FitHeaders c.program.head
       ∙ ap (λ (x : Bool). if x then n else refused m) (declares t lt made) in
       let ends : meaning (layout_of c) (declare_code (heads_in c) t) m ≡ paid work n =
       meaning_seq (layout_of c) (Declare t ∷ charge_of work ∷ []) m ∙ ap (meaning (layout_of c) (charge_of work)) declared ∙ number_pays (layout_of c) work n live.cut in
-      let same : building own ≡ building b = ap (λ (f : Format). building (started f (shape_at w t))) (formats_are c.program.headers t) in
+      let same : building own ≡ building b = ap (λ (f : Format). building (started f (shape_at w t))) (formats_are c.program.headers c.dims.shapes t) in
       let goes : Live c inputs pins done (paid work n) = worked_live c inputs pins (with_stage t (Built b) r) n (changed_live c inputs pins r m live t (Built b) (building own) lt made same (started_fits t)) work in
       let run : declare w t r ≡ done = ap (λ (x : Bool). if x then done else unalive r) made in
       inl (subst (λ (x : Run). Live c inputs pins x (meaning (layout_of c) (declare_code (heads_in c) t) m)) (sym run) (subst (Live c inputs pins done) (sym ends) goes))

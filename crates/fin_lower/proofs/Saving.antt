@@ -1,5 +1,5 @@
 -- A variable's local is saved behind the first ones, and is what it was at the end.
-use Rattle.std.proofs.Common.{◌≡◌, ◌≢◌, ℕ, suc, ◌+◌, ◌<◌, ◌≤◌, ⊎_elim, List, [], ◌∷◌, ◌++◌, length, length-set, get_or-set_same, get_or-set_other, refl, sym, ap, ◌∙◌, subst, ℤ, pos, arith, inl}
+use Rattle.std.proofs.Common.{◌≡◌, ◌≢◌, ℕ, ◌+◌, ◌<◌, ◌≤◌, ⊎_elim, List, [], ◌∷◌, ◌++◌, length, length-set, get_or-set_same, get_or-set_other, sym, ap, ◌∙◌, subst, ℤ, pos, arith, inl}
 use Rattle.std.specs.Prelude.{slice_set}
 use Rattle.std.proofs.lemmas.Bool.{cases_eq}
 use Rattle.std.proofs.lemmas.List.{get_or_append_left, length-append}
@@ -7,26 +7,20 @@ use Rattle.std.proofs.Math.Seq.{get_or-append_seam}
 use Rattle.fin_tensor.specs.declared.storage.Storage.{Storage}
 use Rattle.fin_ast.specs.declared.checked.Checked.{Checked}
 use Rattle.fin_ast.specs.Value.{Numbers}
-use Rattle.fin_ir.specs.declared.expression.IExpr.TheVariants.{Num, Local}
-use Rattle.fin_ir.specs.Machine.{Machine, seen, assign, charge}
+use Rattle.fin_ir.specs.declared.expression.IExpr.TheVariants.{Local}
+use Rattle.fin_ir.specs.Machine.{Machine, seen, assign}
 use Rattle.fin_ir.specs.Meaning.{meaning}
-use Rattle.fin_ir.proofs.Codes.{meaning_assign, meaning_charge}
-use Rattle.fin_ir.proofs.Values.{value_num, value_local}
+use Rattle.fin_ir.proofs.Codes.{meaning_assign}
+use Rattle.fin_ir.proofs.Values.{value_local}
 use Rattle.fin_stage.specs.Staged.{Run, worked}
 use Rattle.fin_stage.proofs.Onward.{onward_still}
 use Rattle.fin_read.specs.Steps.{Agree}
 use Rattle.fin_lower.specs.Lowering.{charge_of, move_code}
-use Rattle.fin_lower.specs.Room.{most}
 use Rattle.fin_lower.specs.Plans.{layout_of}
 use Rattle.fin_lower.proofs.Related.{Live, Related}
 use Rattle.fin_lower.proofs.Still.{stills}
-use Rattle.fin_lower.proofs.Pinning.{at, live_set, live_more, live_less, live_charge, goes_on}
-use Rattle.fin_lower.proofs.Turns.{SameBut}
-
--- code needs the locals before its first free one
-pub room_low : (next : ℕ) (rs : List (ℕ → ℕ)) → next ≤ most next rs
-room_low next [] = omega arith
-room_low next (r ∷ rs) = let low = room_low next rs in omega (arith, low)
+use Rattle.fin_lower.proofs.Changed.{number_pays, worked_live}
+use Rattle.fin_lower.proofs.Pinning.{at, SameBut, live_set, live_more, live_less, goes_on}
 
 -- the first locals, and behind them that of a variable
 abbrev pub with_saved : List ℤ → ℕ → List ℤ
@@ -40,7 +34,7 @@ saved_agree n ps var vars le a k lt = get_or_append_left ps (at ps var ∷ []) (
 
 module _ (c : Checked) (inputs : List Storage) where
   pub charged : (ps : List ℤ) (r : Run) (m : Machine) (n : ℕ) → Live c inputs ps r m → Live c inputs ps (worked n r) (meaning (layout_of c) (charge_of n) m)
-  charged ps r m n l = subst (Live c inputs ps (worked n r)) (sym (meaning_charge (layout_of c) (Num (pos n)) m ∙ ap (λ (v : ℤ). charge v m) (value_num (seen m) m.locals (pos n)))) (live_charge c inputs ps r m n l)
+  charged ps r m n l = subst (Live c inputs ps (worked n r)) (sym (number_pays (layout_of c) n m l.cut)) (worked_live c inputs ps r m l n)
 
   moves : (to source : ℕ) (m : Machine) → meaning (layout_of c) (move_code to source) m ≡ assign to (at m.locals source) m
   moves to source m = meaning_assign (layout_of c) to (Local source) m ∙ ap (λ (v : ℤ). assign to v m) (value_local (seen m) m.locals source)
@@ -56,13 +50,11 @@ module _ (c : Checked) (inputs : List Storage) where
       let value : at m.locals (length ps) ≡ at ps var = l.pinned (length ps) (omega (arith, long)) ∙ s.same (length ps) apart ∙ get_or-append_seam ps (at ps var) [] (pos 0) in
       let put : Live c inputs (slice_set words var (at ps var)) r (assign var (at ps var) m) = live_set c inputs words r m var (at ps var) (omega (arith, lt, long)) room l in
       let agree : Agree (length ps) (slice_set words var (at ps var)) ps = λ k below. ⊎_elim
-          (λ (e : k ≡ var). ap (at (slice_set words var (at ps var))) e ∙ get_or-set_same words var (at ps var) (pos 0) (omega (arith, lt, long)) ∙ ap (at ps) (sym e))
-          (λ (ne : k ≢ var). get_or-set_other words var k (at ps var) (pos 0) ne ∙ s.same k ne ∙ get_or_append_left ps (at ps var ∷ []) (pos 0) k below)
-          (cases_eq k var) in
+      (λ (e : k ≡ var). ap (at (slice_set words var (at ps var))) e ∙ get_or-set_same words var (at ps var) (pos 0) (omega (arith, lt, long)) ∙ ap (at ps) (sym e))
+      (λ (ne : k ≢ var). get_or-set_other words var k (at ps var) (pos 0) ne ∙ s.same k ne ∙ get_or_append_left ps (at ps var ∷ []) (pos 0) k below)
+      (cases_eq k var) in
       subst (Live c inputs ps r) (sym (moves var (length ps) m ∙ ap (λ (v : ℤ). assign var v m) value))
-      (live_less c inputs (slice_set words var (at ps var)) ps r (assign var (at ps var) m) (let e = set_length words var (at ps var) in omega (arith, e, long)) agree put) where
-    set_length : (xs : List ℤ) (k : ℕ) (v : ℤ) → length (slice_set xs k v) ≡ length xs
-    set_length xs k v = length-set xs k v
+      (live_less c inputs (slice_set words var (at ps var)) ps r (assign var (at ps var) m) (omega (arith, length-set words var (at ps var), long)) agree put)
 
   pub restored : (ps words : List ℤ) (var : ℕ) (r : Run) (m : Machine) → var < length ps → SameBut var words (with_saved ps var) → length words ≤ (layout_of c).locals → Related c inputs words r m
       → Related c inputs ps r (meaning (layout_of c) (move_code var (length ps)) m)

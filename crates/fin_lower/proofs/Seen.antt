@@ -1,8 +1,8 @@
 -- What code sees as a storage of a function: inputs, and canonical storages that aren't too large.
 use Rattle.std.proofs.Common.{◌≡◌, ◌<◌, ◌≤◌, ℕ, true, false, List, [], ◌∷◌, length, Option, Some, None, refl, sym, ap, ◌∙◌, subst, ⊎_elim, ℤ, arith}
-use Rattle.std.specs.Prelude.{not, is_none, slice_get}
+use Rattle.std.specs.Prelude.{is_none, slice_get}
 use Rattle.std.specs.Option.{option_or}
-use Rattle.std.proofs.lemmas.Bool.{cases_lt}
+use Rattle.std.proofs.lemmas.Bool.{cases_lt, not-false}
 use Rattle.std.proofs.lemmas.List.{get_or_past}
 use Rattle.fin_tensor.specs.declared.format.Format.{Format}
 use Rattle.fin_tensor.specs.declared.format.Level.{Level}
@@ -38,7 +38,7 @@ use Rattle.fin_lower.proofs.Related.{unchanged, Stand, Live}
 -- ---- one tensor
 
 -- an input
-pub given_seen : (ts : ℕ → Tensor) (t : ℕ) (s : Storage) → ts t ≡ stored (frozen_of s) → Sees ts t s.format.levels s.shape s.format.fill (stands s)
+given_seen : (ts : ℕ → Tensor) (t : ℕ) (s : Storage) → ts t ≡ stored (frozen_of s) → Sees ts t s.format.levels s.shape s.format.fill (stands s)
 given_seen ts t s e =
     let values = value_from s.shape s.parts s.val s.format.fill 0 in
     record {
@@ -52,10 +52,7 @@ given_seen ts t s e =
     }
 
 pub few_of : (b : Building) → is_large b ≡ false → are_few b.format.levels b.function.fill b.function.shape (value_at b.function ∷ []) ≡ true
-few_of b e = elim (are_few b.format.levels b.function.fill b.function.shape (value_at b.function ∷ [])) as (λ few. not few ≡ false → few ≡ true) [
-  | true ↦ λ h. refl
-  | false ↦ λ h. sym h
-] e
+few_of b e = not-false (are_few b.format.levels b.function.fill b.function.shape (value_at b.function ∷ [])) e
 
 -- a canonical storage that isn't too large is valid
 pub canon_valid : (b : Building) → RunsStandLast b.format.levels → length b.function.shape ≡ length b.format.levels → AreSmall b.function.shape → is_large b ≡ false → IsStored 1 b.format.levels b.function.shape (canon b).parts (canon b).val
@@ -64,7 +61,7 @@ canon_valid b runs long small few =
     (few_allowed b.format.levels b.function.fill b.function.shape (value_at b.function ∷ []) (few_of b few))
 
 -- what was frozen
-pub frozen_seen : (ts : ℕ → Tensor) (t : ℕ) (b : Building) → ts t ≡ stored (canon b) → RunsStandLast b.format.levels → length b.function.shape ≡ length b.format.levels → AreSmall b.function.shape → is_large b ≡ false →
+frozen_seen : (ts : ℕ → Tensor) (t : ℕ) (b : Building) → ts t ≡ stored (canon b) → RunsStandLast b.format.levels → length b.function.shape ≡ length b.format.levels → AreSmall b.function.shape → is_large b ≡ false →
     Sees ts t b.format.levels b.function.shape b.function.fill b.function
 frozen_seen ts t b e runs long small few = record {
   storage = canon b;
@@ -124,6 +121,6 @@ module _ (c : Checked) (inputs : List Storage) (fits : FitHeaders c.program.head
         let q = given_is_input c inputs fits given_fit t g n in
         let i = q.3 in
         let there : seen m t ≡ stored (frozen_of i.storage) = seen_held t ∙ live.given t (ap is_none n) ∙ i.tensor in
-        let format : i.storage.format ≡ undecorated (format_of (heads_in c) t) = i.format ∙ ap undecorated (sym (format_is c.program.headers t q.0 q.1)) in
+        let format : i.storage.format ≡ undecorated (format_of (heads_in c) t) = i.format ∙ ap undecorated (sym (format_is c.program.headers c.dims.shapes t q.0 q.1)) in
         let same : stands i.storage ≡ f = cc in
         sees_as (seen m) t _ _ _ _ _ _ _ _ (ap (λ (x : Format). x.levels) format) i.shape_is (ap (λ (x : Format). x.fill) format) same (given_seen (seen m) t i.storage there)

@@ -1,57 +1,23 @@
 -- The turns of a loop.
-use Rattle.std.proofs.Common.{◌≡◌, ◌≢◌, ℕ, zero, suc, ◌+◌, ◌-◌, ◌<◌, ◌≤◌, ⊎_elim, Bool, true, false, List, [], ◌∷◌, ◌++◌, length, length-set, get_or-set_same, get_or-set_other, refl, sym, ap, ◌∙◌, subst, ℤ, pos, ◌+ℤ◌, arith, inl}
+use Rattle.std.proofs.Common.{◌≡◌, ℕ, zero, suc, ◌+◌, ◌<◌, ◌≤◌, Bool, true, List, length, refl, sym, ap, subst, ℤ, pos, arith, inl}
 use Rattle.std.specs.Prelude.{slice_set, if◌then◌else◌}
-use Rattle.std.proofs.lemmas.Bool.{cases_eq}
 use Rattle.fin_tensor.specs.declared.storage.Storage.{Storage}
 use Rattle.fin_ast.specs.declared.checked.Checked.{Checked}
-use Rattle.fin_ast.specs.Dense.{setting_of}
 use Rattle.fin_ast.specs.Value.{Numbers}
 use Rattle.fin_ir.specs.declared.code.Code.{Code}
-use Rattle.fin_ir.specs.declared.code.Code.TheVariants.{Seq}
 use Rattle.fin_ir.specs.Machine.{Machine, assign, count_turn}
 use Rattle.fin_ir.specs.Meaning.{meaning, for_turn, for_turns}
 use Rattle.fin_stage.specs.Staged.{Run, Action, regular, worked, repeated}
 use Rattle.fin_stage.proofs.Onward.{Onward, GoesOn, onward_worked, onward_still, onward_then, repeated_goes_on}
-use Rattle.fin_read.specs.Steps.{Agree}
-use Rattle.fin_lower.specs.Plans.{variables_in, layout_of}
+use Rattle.fin_lower.specs.Plans.{layout_of}
 use Rattle.fin_lower.proofs.Related.{Live, Related}
 use Rattle.fin_lower.proofs.Still.{Stills, stills, for_turns_still}
-use Rattle.fin_lower.proofs.Pinning.{at, alive, live_set, goes_on, related_on}
+use Rattle.fin_lower.proofs.Pinning.{SameBut, same_but_set, alive, live_as, live_set, goes_on}
 use Rattle.fin_lower.proofs.Valued.{regular_before}
-
--- lists of locals that are the same but for one
-pub record SameBut (var : ℕ) (ps qs : List ℤ) : Type 0 where
-  pub long : length ps ≡ length qs
-  pub same : (k : ℕ) → k ≢ var → at ps k ≡ at qs k
-
-pub same_but_itself : (var : ℕ) (ps : List ℤ) → SameBut var ps ps
-same_but_itself var ps = record { long = refl; same = λ k ne. refl }
-
-pub same_but_set : (var : ℕ) (v : ℤ) (ps qs : List ℤ) → SameBut var ps qs → SameBut var (slice_set ps var v) qs
-same_but_set var v ps qs s = record { long = length-set ps var v ∙ s.long; same = λ k ne. get_or-set_other ps var k v (pos 0) ne ∙ s.same k ne }
-
--- the variable is set in both
-pub agree_bound : (n var : ℕ) (v : ℤ) (ps qs : List ℤ) (vars : Numbers) → var < length ps → var < length vars → SameBut var ps qs → Agree n qs vars → Agree n (slice_set ps var v) (slice_set vars var v)
-agree_bound n var v ps qs vars hp hv s a k lt = ⊎_elim
-    (λ (e : k ≡ var). ap (at (slice_set ps var v)) e ∙ get_or-set_same ps var v (pos 0) hp ∙ sym (ap (at (slice_set vars var v)) e ∙ get_or-set_same vars var v (pos 0) hv))
-    (λ (ne : k ≢ var). get_or-set_other ps var k v (pos 0) ne ∙ s.same k ne ∙ a k lt ∙ sym (get_or-set_other vars var k v (pos 0) ne))
-    (cases_eq k var)
 
 module _ (c : Checked) (inputs : List Storage) where
   counted : (ps : List ℤ) (r : Run) (m : Machine) → Live c inputs ps r m → Live c inputs ps r (count_turn m)
-  counted ps r m l = subst (Live c inputs ps r) (sym (alive m (record m { turns = m.turns + 1 }) l.cut)) record {
-    cut = l.cut;
-    regular = l.regular;
-    shared = l.shared;
-    charges = l.charges;
-    locals = l.locals;
-    pinned = l.pinned;
-    tensors = l.tensors;
-    stages = l.stages;
-    each = l.each;
-    given = l.given;
-    fits = l.fits;
-  }
+  counted ps r m l = subst (Live c inputs ps r) (sym (alive m (record m { turns = m.turns + 1 }) l.cut)) (live_as c inputs ps ps m.locals r.work m.charges (m.turns + 1) r m l.charges refl l.pinned l)
 
   count_still : Stills count_turn
   count_still m e = ap (λ (b : Bool). if b then m else record m { turns = m.turns + 1 }) e
@@ -86,5 +52,5 @@ module _ (c : Checked) (inputs : List Storage) where
         let first : Onward r one = onward_then r (worked 1 r) one (onward_worked 1 r) (on (slice_set vars var (pos lo)) (worked 1 r)) in
         let qs : List ℤ = slice_set ps var (pos lo) in
         let turned : Related c inputs qs one (for_turn var (meaning (layout_of c) turn) (pos lo) m) =
-            goes_on c inputs ps qs r one m (for_turn var (meaning (layout_of c) turn) (pos lo)) first (for_turns_still (meaning (layout_of c) turn) (stills (layout_of c) turn) var 1 (pos lo)) rel (λ l. one_turn ps lo r m s l (regular_before one _ rest g)) in
+        goes_on c inputs ps qs r one m (for_turn var (meaning (layout_of c) turn) (pos lo)) first (for_turns_still (meaning (layout_of c) turn) (stills (layout_of c) turn) var 1 (pos lo)) rel (λ l. one_turn ps lo r m s l (regular_before one _ rest g)) in
         turns_go n (lo + 1) qs one _ (same_but_set var (pos lo) ps base s) turned g

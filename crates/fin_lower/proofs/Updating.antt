@@ -23,28 +23,25 @@ use Rattle.fin_ir.proofs.Codes.{meaning_seq, meaning_when, meaning_update}
 use Rattle.fin_stage.specs.Stages.{Stage, Absent, Built, Frozen, stage_at}
 use Rattle.fin_stage.specs.Staged.{Run, worked, with_stage, unalive, unordered, regular, is_made, put_at, update_at, update}
 use Rattle.fin_stage.specs.Fitting.{FunctionFits, StageFits}
+use Rattle.fin_stage.proofs.Alive.{right}
 use Rattle.fin_read.specs.Reads.{in_box}
 use Rattle.fin_read.specs.Values.{shape_of}
+use Rattle.fin_read.proofs.Reading.{inside, box_value}
 use Rattle.fin_lower.specs.Lowering.{charge_of}
 use Rattle.fin_lower.specs.Plans.{heads_in, layout_of}
 use Rattle.fin_lower.proofs.Related.{Stand, Live, Related}
 use Rattle.fin_lower.proofs.Seen.{stage_there}
 use Rattle.fin_lower.proofs.Changed.{paid, number_pays, worked_live, changed_to, changed_live, made_by}
-use Rattle.fin_lower.proofs.Inside.{inside, box_value, coordinates_are}
+use Rattle.fin_lower.proofs.Inside.{coordinates_are}
 
 -- an update in the box alone, which is work anywhere
 abbrev pub put_code : List ℕ → ℕ → List IExpr → Reduce → IExpr → Code
 put_code shape t xs by e = Seq (When (in_box shape xs) (Update t xs by e) ∷ charge_of 1 ∷ [])
 
-never : (a b : Bool) → (a && b && false) ≡ true → ⊥
-never true true e = cc
-never true false e = cc
-never false b e = cc
-
 -- what comes before the last update isn't regular
 in_order : (b : Bool) (x r : Run) → regular (if b then x else unordered r) ≡ true → b ≡ true
 in_order true x r e = refl
-in_order false x r e = absurd (never r.alive r.small e)
+in_order false x r e = right (r.alive && r.small) false e
 
 module _ (c : Checked) (inputs : List Storage) (fits : FitHeaders c.program.headers c.dims) (given_fit : FitProgram c inputs) (pins : List ℤ) (r : Run) (m : Machine) (live : Live c inputs pins r m) (t : ℕ) where
   abbrev w : Setting

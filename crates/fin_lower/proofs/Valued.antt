@@ -1,5 +1,5 @@
 -- The steps of an expression, on a machine.
-use Rattle.std.proofs.Common.{◌≡◌, ℕ, ◌+◌, ◌≤◌, Bool, true, false, ◌&&◌, List, [], ◌∷◌, ◌++◌, map, length, refl, sym, ap, ◌∙◌, subst, ℤ, pos, arith, if◌then◌else◌}
+use Rattle.std.proofs.Common.{◌≡◌, ℕ, ◌+◌, ◌≤◌, Bool, true, false, ◌&&◌, List, [], ◌∷◌, ◌++◌, map, length, refl, sym, ap, ◌∙◌, subst, ℤ, arith}
 use Rattle.std.specs.Prelude.{slice_set}
 use Rattle.fin_tensor.specs.declared.storage.Storage.{Storage}
 use Rattle.fin_ast.specs.declared.checked.Checked.{Checked}
@@ -12,7 +12,6 @@ use Rattle.fin_ir.specs.declared.code.Code.TheVariants.{Assign}
 use Rattle.fin_ir.specs.declared.layout.Layout.{Layout}
 use Rattle.fin_ir.specs.Machine.{Machine, seen}
 use Rattle.fin_ir.specs.Value.{value_in}
-use Rattle.fin_ir.specs.Value as code
 use Rattle.fin_ir.specs.Meaning.{meaning, meaning_all}
 use Rattle.fin_ir.proofs.Codes.{meaning_assign}
 use Rattle.fin_stage.specs.Staged.{Run, tensors_of, can_read, has_small_indices, asked_to_read, asked_for_small, with_value, regular}
@@ -23,10 +22,11 @@ use Rattle.fin_read.specs.Steps.{Step, stepped, assign_of, Agree}
 use Rattle.fin_read.specs.Values.{Lowered, value_code, prelude}
 use Rattle.fin_read.specs.Sees.{SeesAll}
 use Rattle.fin_read.specs.Means.{IsWithin, IsValued, ValuesMean}
+use Rattle.fin_read.proofs.Stepping.{agree_less, agree_then}
 use Rattle.fin_lower.specs.Room.{end_of}
 use Rattle.fin_lower.specs.Plans.{heads_in, variables_in, layout_of}
 use Rattle.fin_lower.proofs.Related.{Live}
-use Rattle.fin_lower.proofs.Pinning.{alive, live_locals, agree_less, agree_then}
+use Rattle.fin_lower.proofs.Pinning.{alive, live_locals}
 use Rattle.fin_lower.proofs.Placed.{Placed}
 
 -- ---- runs
@@ -38,7 +38,7 @@ good r e = record {
   ordered = right (r.alive && r.small) r.ordered e;
 }
 
-pub good_is_regular : (r : Run) → Good r → regular r ≡ true
+good_is_regular : (r : Run) → Good r → regular r ≡ true
 good_is_regular r g = both (r.alive && r.small) r.ordered (both r.alive r.small g.alive g.small) g.ordered
 
 pub regular_before : (r n : Run) → Onward r n → regular n ≡ true → regular r ≡ true
@@ -46,11 +46,11 @@ regular_before r n o e = good_is_regular r (good_before r n o (good n e))
 
 read_good : (b : Bool) (r : Run) → Good (asked_to_read b r) → b ≡ true
 read_good true r g = refl
-read_good false r g = absurd (let e : false ≡ true = g.alive in cc)
+read_good false r g = g.alive
 
 pub was_small : (b : Bool) (r : Run) → Good (asked_for_small b r) → b ≡ true
 was_small true r g = refl
-was_small false r g = absurd (let e : false ≡ true = g.small in cc)
+was_small false r g = g.small
 
 -- what a run was asked for before it goes on with a value
 pub record Asked (w : Setting) (e : Expr) (vars : Numbers) (after : ℤ → Run → Run) (r : Run) : Type 0 where
@@ -80,10 +80,10 @@ pub all_append : (layout : Layout) (xs ys : List Code) (m : Machine) → meaning
 all_append layout [] ys m = refl
 all_append layout (x ∷ xs) ys m = all_append layout xs ys (meaning layout x m)
 
-pub assigned : (layout : Layout) (local : ℕ) (value : _) (m : Machine) → m.cut ≡ false → meaning layout (Assign local value) m ≡ record m { locals = slice_set m.locals local (value_in m value) }
+assigned : (layout : Layout) (local : ℕ) (value : _) (m : Machine) → m.cut ≡ false → meaning layout (Assign local value) m ≡ record m { locals = slice_set m.locals local (value_in m value) }
 assigned layout local value m e = meaning_assign layout local value m ∙ alive m (record m { locals = slice_set m.locals local (value_in m value) }) e
 
-pub steps_go : (layout : Layout) (steps : List Step) (m : Machine) → m.cut ≡ false → meaning_all layout (map assign_of steps) m ≡ record m { locals = stepped (seen m) steps m.locals }
+steps_go : (layout : Layout) (steps : List Step) (m : Machine) → m.cut ≡ false → meaning_all layout (map assign_of steps) m ≡ record m { locals = stepped (seen m) steps m.locals }
 steps_go layout [] m e = refl
 steps_go layout (x ∷ steps) m e =
     ap (meaning_all layout (map assign_of steps)) (assigned layout x.local x.value m e)
@@ -106,7 +106,7 @@ module _ (c : Checked) (inputs : List Storage) (sees : (ps : List ℤ) (r : Run)
       let z : ℤ = value_of e vars (tensors_of (setting_of c inputs) r) in
       let within : IsWithin sc (length vars) = subst (IsWithin sc) (sym long) p.within in
       let after : length vars ≤ length ps = omega (arith, long, p.after) in
-      let agree : Agree (length vars) m.locals vars = agree_then (length vars) m.locals ps vars (agree_less (length ps) (length vars) m.locals ps after l.pinned) (subst (λ (n : ℕ). Agree n ps vars) (sym long) same) in
+      let agree : Agree (length vars) m.locals vars = agree_then (length vars) m.locals ps vars (agree_less (length vars) (length ps) m.locals ps after l.pinned) (subst (λ (n : ℕ). Agree n ps vars) (sym long) same) in
       let fits : v.next + 1 ≤ length m.locals = omega (arith, room, l.locals) in
       let q : IsValued (seen m) v (length ps) m.locals z = values (heads_in c) (seen m) (tensors_of (setting_of c inputs) r) sc vars e (length ps) m.locals (sees ps r m l) within named can small after agree fits in
       let ls : List ℤ = stepped (seen m) v.steps m.locals in

@@ -1,42 +1,35 @@
 -- An accepted program, lowered.
-use Rattle.std.proofs.Common.{◌≡◌, ℕ, suc, ◌+◌, ◌<◌, ◌≤◌, ◌⊎◌, inl, inr, ⊎_elim, true, false, List, [], ◌∷◌, map, length, refl, sym, ap, ◌∙◌, subst, ℤ, pos, arith}
+use Rattle.std.proofs.Common.{◌≡◌, ℕ, ◌+◌, ◌≤◌, ◌⊎◌, inl, inr, true, false, List, length, refl, sym, ap, subst, pos, arith}
+use Rattle.std.proofs.lemmas.List.{length-map}
 use Rattle.fin_tensor.specs.declared.storage.Storage.{Storage}
-use Rattle.fin_tensor.specs.Canon.{undecorated}
 use Rattle.fin_ast.specs.declared.checked.Checked.{Checked}
 use Rattle.fin_ast.specs.declared.checked.Dims.{Dims}
-use Rattle.fin_ast.specs.declared.tree.Stmt.{Stmt}
 use Rattle.fin_ast.specs.Accepted.{IsAccepted, FitProgram}
 use Rattle.fin_ast.specs.Bindings.{bindings_of_all}
 use Rattle.fin_ast.specs.Infer.{places_in}
 use Rattle.fin_ast.specs.Scope.{outermost}
 use Rattle.fin_ast.specs.Shaped.{FitHeaders}
 use Rattle.fin_ast.specs.Sizes.{ranges_of}
-use Rattle.fin_ast.specs.Dense.{function_of, setting_of, unbound}
+use Rattle.fin_ast.specs.Dense.{unbound}
 use Rattle.fin_ast.proofs.Fitting.{found_fit}
-use Rattle.fin_ast.proofs.Induction.{AllOf, all_by_kind}
-use Rattle.fin_ir.specs.Machine.{held, stored}
-use Rattle.fin_ir.specs.Meaning.{meaning, meaning_all}
+use Rattle.fin_ast.proofs.Induction.{all_by_kind}
+use Rattle.fin_ir.specs.Machine.{held}
+use Rattle.fin_ir.specs.Meaning.{meaning_all}
 use Rattle.fin_ir.specs.Named.{is_named}
 use Rattle.fin_ir.proofs.Codes.{meaning_seq}
-use Rattle.fin_stage.specs.Stages.{stage_at}
 use Rattle.fin_stage.specs.Staged.{before_all, staged}
 use Rattle.fin_stage.specs.Sound.{IsSound}
 use Rattle.fin_stage.proofs.Ranges.{ranges_count}
 use Rattle.fin_stage.proofs.Soundness.{accepted_is_sound}
-use Rattle.fin_read.specs.Steps.{Agree}
 use Rattle.fin_lower.specs.Lowering.{code_of_all}
 use Rattle.fin_lower.specs.Plans.{sides_in, variables_in, code_of, layout_of}
-use Rattle.fin_lower.specs.Lowered.{begun, ended, canon_of, IsWhole, IsCut, IsLowered, AcceptedIsLowered}
-use Rattle.fin_lower.proofs.Related.{Stand, Live, Over, Related}
+use Rattle.fin_lower.specs.Lowered.{begun, ended, IsWhole, IsCut, IsLowered, AcceptedIsLowered}
+use Rattle.fin_lower.proofs.Related.{Stand, Related}
 use Rattle.fin_lower.proofs.Placed.{Placed, BodyFits, counted_below}
 use Rattle.fin_lower.proofs.Bodies.{Goes, all_go}
 use Rattle.fin_lower.proofs.Beginning.{begins, inputs_fit}
 use Rattle.fin_lower.proofs.Naming.{Named, named_seq, all_are_named}
 use Rattle.fin_lower.proofs.Beside.{goings, namings}
-
-length_map : {A B : Type 0} (f : A → B) (xs : List A) → length (map f xs) ≡ length xs
-length_map f [] = refl
-length_map f (x ∷ xs) = ap suc (length_map f xs)
 
 module _ (c : Checked) (inputs : List Storage) (accepted : IsAccepted c) (given_fit : FitProgram c inputs) where
   fits : FitHeaders c.program.headers c.dims
@@ -62,7 +55,7 @@ module _ (c : Checked) (inputs : List Storage) (accepted : IsAccepted c) (given_
       (all_are_named c c.program.body (all_by_kind (Named c) (namings c) c.program.body) (outermost c.program.headers) (variables_in c) placed body_fits)
 
   long : length (unbound c.dims) ≡ variables_in c
-  long = length_map (λ (r : ℕ × ℕ). pos 0) c.dims.ranges
+  long = length-map c.dims.ranges (λ (r : ℕ × ℕ). pos 0)
 
   sound : IsSound c inputs
   sound = accepted_is_sound c inputs accepted given_fit

@@ -2,3 +2,4 @@ pub mod Lowering
 pub mod Room
 pub mod Plans
 pub mod Lowered
+pub mod Built

@@ -1,6 +1,6 @@
 -- The code of statements. A variable has the local of its number; the other locals are free from `next` on, and a
 -- statement leaves each local before it as it was. Each turn of a loop and each statement pays its coordinate work.
-use Rattle.std.specs.Prelude.{ℕ, ◌+◌, List, [], ◌∷◌, ◌++◌, map, slice_index_or, pos}
+use Rattle.std.specs.Prelude.{ℕ, ◌+◌, min, List, [], ◌∷◌, ◌++◌, map, slice_index_or, pos}
 use Rattle.fin_base.specs.declared.reduce.Reduce.{Reduce}
 use Rattle.fin_ast.specs.declared.header.Header.{Header}
 use Rattle.fin_ast.specs.declared.tree.Index.{Index}
@@ -31,7 +31,7 @@ charge_of n = Charge (Num (pos n))
 abbrev pub declare_code : Heads → ℕ → Code
 declare_code h tensor = Seq (Declare tensor ∷ charge_of (work_of_declaration (format_of h tensor).levels (shape_of h tensor)) ∷ [])
 
--- the number of values of a tensor that is a storage
+-- the number of values of a tensor that is a storage: a freeze counts when it has become one, a thaw while it still is one
 abbrev pub count_of : Heads → ℕ → IExpr
 count_of h tensor = count_code tensor (format_of h tensor).levels (shape_of h tensor)
 
@@ -58,14 +58,19 @@ move_code to source = Assign to (Local source)
 abbrev pub bind_code : ℕ → ℕ → Lowered → List Code → Code
 bind_code var next v body = Seq (charge_of 1 ∷ move_code next var ∷ prelude v ++ Assign var v.value ∷ Seq body ∷ move_code var next ∷ [])
 
+-- where a loop begins: an empty range may begin behind every number that code has
+abbrev pub begin_of : ℕ × ℕ → ℕ
+begin_of range = min range.0 range.1
+
 abbrev pub loop_over : ℕ × ℕ → ℕ → ℕ → Code → Code
-loop_over range var next turn = Seq (charge_of 1 ∷ move_code next var ∷ ForLoop var (Num (pos range.0)) (Num (pos range.1)) turn ∷ move_code var next ∷ [])
+loop_over range var next turn = Seq (charge_of 1 ∷ move_code next var ∷ ForLoop var (Num (pos (begin_of range))) (Num (pos range.1)) turn ∷ move_code var next ∷ [])
 
 abbrev pub loop_code : ℕ × ℕ → ℕ → ℕ → List Code → Code
 loop_code range var next body = loop_over range var next (Seq (charge_of 1 ∷ body))
 
 -- ---- all statements
 
+-- the code of a statement, by its first free local
 abbrev pub Coded : Type 0
 Coded = ℕ → Code
 

@@ -12,6 +12,7 @@ use Rattle.fin_read.specs.Values.{Heads, heads_of}
 use Rattle.fin_lower.specs.Lowering.{Sides, sides_over, code_of_all}
 use Rattle.fin_lower.specs.Room.{reach_of_all}
 
+-- how a layout tells the kinds
 abbrev pub kind_number : Kind → ℕ
 kind_number Input = 0
 kind_number Output = 1

@@ -8,10 +8,12 @@ use Rattle.fin_read.specs.Values.{Heads, Lowered, value_code}
 abbrev pub end_of : Lowered → ℕ
 end_of v = v.next + 1
 
+-- the most that any of them needs from `next` on, and at least the locals before it
 abbrev pub most : ℕ → List (ℕ → ℕ) → ℕ
 most next [] = next
 most next (r ∷ rs) = max (r next) (most next rs)
 
+-- one node, with the need of each part in its place: a loop and a let take the local `next` to save a variable's
 abbrev pub reach_step : Heads → Stmt-F (ℕ → ℕ) → ℕ → ℕ
 reach_step h (Stmt-F.Block body line last) next = most next body
 reach_step h (Stmt-F.Loop var range par body line last) next = most (next + 1) body

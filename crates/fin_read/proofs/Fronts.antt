@@ -1,5 +1,6 @@
 -- Lists of levels and extents without their first.
 use Rattle.std.proofs.Common.{◌≡◌, ℕ, zero, suc, ◌-◌, ◌^◌, ◌≤◌, List, [], ◌∷◌, ◌++◌, map, append-nil, length, take, drop, refl, sym, ap, ◌∙◌, subst, arith}
+use Rattle.std.proofs.lemmas.List.{take_all}
 use Rattle.fin_tensor.specs.declared.format.Level.{Level}
 use Rattle.fin_tensor.specs.Levels.{AreSmall}
 use Rattle.fin_ir.specs.declared.expression.IExpr.{IExpr}
@@ -9,21 +10,17 @@ use Rattle.fin_read.specs.Reads.{levels_steps}
 use Rattle.fin_read.specs.Values.{AreShapes}
 use Rattle.fin_read.specs.Counts.{count_from}
 
-pub small_rest : (ns : List ℕ) → AreSmall ns → AreSmall (drop 1 ns)
+-- all behind the first
+pub take_rest : {A : Type 0} (xs : List A) → take (length xs - 1) (drop 1 xs) ≡ drop 1 xs
+take_rest [] = refl
+take_rest (x ∷ xs) = take_all (length (x ∷ xs) - 1) xs (omega arith)
+
+small_rest : (ns : List ℕ) → AreSmall ns → AreSmall (drop 1 ns)
 small_rest [] h k lt = absurd (omega (arith, lt))
 small_rest (n ∷ ns) h k lt = h (suc k) (omega (arith, lt))
 
 pub small_part : (ns : List ℕ) → AreSmall ns → AreSmall (take (length ns - 1) (drop 1 ns))
-small_part ns h = subst AreSmall (sym (whole ns)) (small_rest ns h) where
-  all : (xs : List ℕ) → take (length xs) xs ≡ xs
-  all [] = refl
-  all (x ∷ xs) = ap (λ (ys : List ℕ). x ∷ ys) (all xs)
-
-  whole : (xs : List ℕ) → take (length xs - 1) (drop 1 xs) ≡ drop 1 xs
-  whole [] = refl
-  whole (x ∷ xs) =
-      let same : length (x ∷ xs) - 1 ≡ length xs = omega arith in
-      ap (λ (n : ℕ). take n xs) same ∙ all xs
+small_part ns h = subst AreSmall (sym (take_rest ns)) (small_rest ns h)
 
 pub one_shape : (n : ℕ) → n ≤ 2 ^ 40 → AreShapes ((n ∷ []) ∷ [])
 one_shape n h zero zero lt = h

@@ -1,8 +1,8 @@
 -- The layout has the locals and tensors that the code of expressions names.
-use Rattle.std.proofs.Common.{◌≡◌, ℕ, zero, suc, ◌+◌, ◌<◌, ◌≤◌, Bool, true, ◌&&◌, List, [], ◌∷◌, ◌++◌, map, length, Option, Some, None, refl, sym, ◌∙◌, subst, ℤ, pos, arith, nat_lt}
+use Rattle.std.proofs.Common.{◌≡◌, ℕ, ◌+◌, ◌<◌, ◌≤◌, Bool, true, ◌&&◌, List, [], ◌∷◌, ◌++◌, map, length, Option, Some, None, refl, sym, ◌∙◌, subst, ℤ, pos, arith}
 use Rattle.std.specs.Prelude.{slice_get, ◌==◌}
 use Rattle.std.specs.List.{list_all}
-use Rattle.std.proofs.lemmas.Bool.Decides.{nat_tests}
+use Rattle.std.proofs.lemmas.Bool.{lt-ltb}
 use Rattle.fin_base.specs.declared.terms.Op.{Op}
 use Rattle.fin_base.specs.declared.terms.Op.TheVariants as op
 use Rattle.fin_tensor.specs.declared.format.Level.{Level}
@@ -19,7 +19,7 @@ use Rattle.fin_ir.specs.declared.expression.IExpr.{IExpr}
 use Rattle.fin_ir.specs.declared.expression.IExpr.TheVariants.{Num, Local, Neg, Two, Pick, Cell, Seek, Val}
 use Rattle.fin_ir.specs.Named.{has_local, has_tensor, expression_step, is_named_in, code_step, is_named}
 use Rattle.fin_ir.proofs.Nodes.{of_num, of_local, of_neg, of_two, of_pick, of_cell, of_seek, of_val, of_assign}
-use Rattle.fin_stage.proofs.Alive.{left, right, both}
+use Rattle.fin_stage.proofs.Alive.{left, right, both, holds_there}
 use Rattle.fin_read.specs.Steps.{Step, assign_of}
 use Rattle.fin_read.specs.Reads.{none, in_extent, in_box, fibre_begin, fibre_end, where_placed, sought, found, in_block, step_to, level_steps, levels_steps, last_step, read_steps}
 use Rattle.fin_read.specs.Counts.{below_level, count_from, count_code}
@@ -40,7 +40,7 @@ module _ (layout : Layout) where
   HasTensor tensor = has_tensor layout tensor ≡ true
 
   pub local_below : (local : ℕ) → local < layout.locals → HasLocal local
-  local_below local lt = grind (arith, nat_tests)
+  local_below local lt = lt-ltb local layout.locals lt
 
   -- ---- expressions of loop code
   pub num : (n : ℤ) → Named (Num n)
@@ -49,22 +49,22 @@ module _ (layout : Layout) where
   pub local : (k : ℕ) → HasLocal k → Named (Local k)
   local k has = of_local Bool (expression_step layout) k ∙ has
 
-  pub neg : (x : IExpr) → Named x → Named (Neg x)
+  neg : (x : IExpr) → Named x → Named (Neg x)
   neg x is = of_neg Bool (expression_step layout) x ∙ is
 
-  pub two : (o : Op) (x y : IExpr) → Named x → Named y → Named (Two o x y)
+  two : (o : Op) (x y : IExpr) → Named x → Named y → Named (Two o x y)
   two o x y is and = of_two Bool (expression_step layout) o x y ∙ both (is_named_in layout x) (is_named_in layout y) is and
 
-  pub pick : (x y z : IExpr) → Named x → Named y → Named z → Named (Pick x y z)
+  pick : (x y z : IExpr) → Named x → Named y → Named z → Named (Pick x y z)
   pick x y z first second third = of_pick Bool (expression_step layout) x y z ∙ both _ (is_named_in layout z) (both (is_named_in layout x) (is_named_in layout y) first second) third
 
-  pub cell : (tensor k : ℕ) (t : Table) (x : IExpr) → HasTensor tensor → Named x → Named (Cell tensor k t x)
+  cell : (tensor k : ℕ) (t : Table) (x : IExpr) → HasTensor tensor → Named x → Named (Cell tensor k t x)
   cell tensor k t x has is = of_cell Bool (expression_step layout) tensor k t x ∙ both (has_tensor layout tensor) (is_named_in layout x) has is
 
-  pub seek : (tensor k : ℕ) (x y z : IExpr) → HasTensor tensor → Named x → Named y → Named z → Named (Seek tensor k x y z)
+  seek : (tensor k : ℕ) (x y z : IExpr) → HasTensor tensor → Named x → Named y → Named z → Named (Seek tensor k x y z)
   seek tensor k x y z has first second third = of_seek Bool (expression_step layout) tensor k x y z ∙ both _ (is_named_in layout z) (both _ (is_named_in layout y) (both (has_tensor layout tensor) (is_named_in layout x) has first) second) third
 
-  pub val : (tensor : ℕ) (x : IExpr) → HasTensor tensor → Named x → Named (Val tensor x)
+  val : (tensor : ℕ) (x : IExpr) → HasTensor tensor → Named x → Named (Val tensor x)
   val tensor x has is = of_val Bool (expression_step layout) tensor x ∙ both (has_tensor layout tensor) (is_named_in layout x) has is
 
   -- each expression of a list
@@ -75,10 +75,10 @@ module _ (layout : Layout) where
   abbrev pub AreNamed : List Step → Type 0
   AreNamed ss = list_all (is_named layout) (map assign_of ss) ≡ true
 
-  pub step : (to : ℕ) (x : IExpr) (rest : List Step) → HasLocal to → Named x → AreNamed rest → AreNamed (step_to to x ∷ rest)
+  step : (to : ℕ) (x : IExpr) (rest : List Step) → HasLocal to → Named x → AreNamed rest → AreNamed (step_to to x ∷ rest)
   step to x rest has is more = both (is_named layout (assign_of (step_to to x))) (list_all (is_named layout) (map assign_of rest)) (of_assign Bool (code_step layout) to x ∙ both (has_local layout to) (is_named_in layout x) has is) more
 
-  pub steps_append : (a b : List Step) → AreNamed a → AreNamed b → AreNamed (a ++ b)
+  steps_append : (a b : List Step) → AreNamed a → AreNamed b → AreNamed (a ++ b)
   steps_append [] b first second = second
   steps_append (s ∷ a) b first second =
       both (is_named layout (assign_of s)) (list_all (is_named layout) (map assign_of (a ++ b)))
@@ -86,7 +86,7 @@ module _ (layout : Layout) where
       (steps_append a b (right (is_named layout (assign_of s)) (list_all (is_named layout) (map assign_of a)) first) second)
 
   -- ---- an access
-  pub extent : (n : ℕ) (x value : IExpr) → Named x → Named value → Named (in_extent n x value)
+  extent : (n : ℕ) (x value : IExpr) → Named x → Named value → Named (in_extent n x value)
   extent n x value is and =
       let zero : Named (Num (pos 0)) = num (pos 0) in
       pick (Two op.Lt x (Num (pos 0))) (Num (pos 0)) (Pick (Two op.Lt x (Num (pos n))) value (Num (pos 0))) (two op.Lt x (Num (pos 0)) is zero) zero
@@ -147,7 +147,7 @@ module _ (layout : Layout) where
     last : (fill : ℤ) → AreNamed (last_step tensor fill at ∷ [])
     last fill = step at (Pick (Two op.Lt (Local at) (Num (pos 0))) (Num fill) (Val tensor (Local at))) [] here (pick (Two op.Lt (Local at) (Num (pos 0))) (Num fill) (Val tensor (Local at)) (two op.Lt (Local at) (Num (pos 0)) (local at here) (num (pos 0))) (num fill) (val tensor (Local at) has (local at here))) refl
 
-    pub read_named : (levels : List Level) (shape : List ℕ) (fill : ℤ) (xs : List IExpr) → AllNamed xs → AreNamed (read_steps tensor levels shape fill xs at)
+    read_named : (levels : List Level) (shape : List ℕ) (fill : ℤ) (xs : List IExpr) → AllNamed xs → AreNamed (read_steps tensor levels shape fill xs at)
     read_named levels shape fill xs all =
         step at (Pick (in_box shape xs) (Num (pos 0)) none) (levels_steps tensor 0 levels shape xs at ++ last_step tensor fill at ∷ []) here (pick (in_box shape xs) (Num (pos 0)) none (box shape xs all) (num (pos 0)) (num _))
         (steps_append (levels_steps tensor 0 levels shape xs at) (last_step tensor fill at ∷ []) (all_levels 0 levels shape xs all) (last fill))
@@ -188,12 +188,6 @@ module _ (layout : Layout) where
 
 -- ---- expressions
 
--- a tensor whose header is found has one
-there : (test : Header → Bool) (hs : List Header) (tensor : ℕ) → holds_of test (slice_get hs tensor) ≡ true → tensor < length hs
-there test [] tensor e = absurd cc
-there test (x ∷ hs) zero e = omega arith
-there test (x ∷ hs) (suc tensor) e = omega (arith, there test hs tensor e)
-
 module _ (layout : Layout) (h : Heads) (s : Scope) (count : ℕ) (same : s.headers ≡ h.headers) (long : length h.headers ≤ length layout.formats) (within : IsWithin s count) where
   abbrev IsNamed : Lowered → Type 0
   IsNamed v = (list_all (is_named layout) (prelude v) ≡ true) × (is_named_in layout v.value ≡ true)
@@ -203,11 +197,9 @@ module _ (layout : Layout) (h : Heads) (s : Scope) (count : ℕ) (same : s.heade
 
   tensor_named : (tensor : ℕ) (test : Header → Bool) → holds_of test (slice_get s.headers tensor) ≡ true → has_tensor layout tensor ≡ true
   tensor_named tensor test e =
-      let lt = there test s.headers tensor e in
+      let lt = holds_there test s.headers tensor e in
       let few : length s.headers ≤ length layout.formats = subst (λ (hs : List Header). length hs ≤ length layout.formats) (sym same) long in
-      below_limit tensor (length layout.formats) (omega (arith, lt, few)) where
-        below_limit : (a b : ℕ) → a < b → nat_lt a b ≡ true
-        below_limit a b lt' = grind (arith, nat_tests)
+      lt-ltb tensor (length layout.formats) (omega (arith, lt, few))
 
   access : (tensor : ℕ) (at : List Index) (line : ℕ) → CodeIsNamed (e.Read tensor at line)
   access tensor at line next named low room =
@@ -249,7 +241,7 @@ module _ (layout : Layout) (h : Heads) (s : Scope) (count : ℕ) (same : s.heade
     two = pair;
   }
 
-  pub code_is_named : (x : Expr) → CodeIsNamed x
+  code_is_named : (x : Expr) → CodeIsNamed x
   code_is_named = by_kind CodeIsNamed kinds
 
 pub values_are_named : ValuesAreNamed

@@ -41,7 +41,7 @@ sub_below a b h k = sub_is a b (omega arith) h ∙ (let e : pos a -ℤ pos b ≡
 
 -- ---- tests
 
-pub off_truth : (b : Bool) {A : Type 0} (x y : A) → (if is_off (truth b) then y else x) ≡ (if b then x else y)
+off_truth : (b : Bool) {A : Type 0} (x y : A) → (if is_off (truth b) then y else x) ≡ (if b then x else y)
 off_truth true x y = refl
 off_truth false x y = refl
 
@@ -51,14 +51,14 @@ eq_is a b = elim (nat_eq a b) as (λ t. nat_eq a b ≡ t → int_eq (pos a) (pos
   | false ↦ (λ h. let e : a ≢ b = grind (arith, nat_tests) in grind (arith, ints))
 ] refl
 
-pub lt_zero : (a : ℕ) → int_lt (pos a) (pos 0) ≡ false
+lt_zero : (a : ℕ) → int_lt (pos a) (pos 0) ≡ false
 lt_zero a = grind (arith, nat_tests)
 
 -- ---- expressions
 
 module _ (ts : ℕ → Tensor) (ls : List ℤ) where
   -- a choice by a comparison
-  pub choice : (x y u v : IExpr) → value_of (e.Pick (e.Two op.Lt x y) u v) ts ls ≡ (if int_lt (value_of x ts ls) (value_of y ts ls) then value_of u ts ls else value_of v ts ls)
+  choice : (x y u v : IExpr) → value_of (e.Pick (e.Two op.Lt x y) u v) ts ls ≡ (if int_lt (value_of x ts ls) (value_of y ts ls) then value_of u ts ls else value_of v ts ls)
   choice x y u v =
       value_pick ts ls (e.Two op.Lt x y) u v
       ∙ ap (λ (z : ℤ). if is_off z then value_of v ts ls else value_of u ts ls) (value_two ts ls op.Lt x y)
@@ -82,20 +82,17 @@ module _ (ts : ℕ → Tensor) (ls : List ℤ) where
   pub local_is : (at : ℕ) (z : ℤ) → slice_index_or ls at (pos 0) ≡ z → value_of (e.Local at) ts ls ≡ z
   local_is at z h = value_local ts ls at ∙ h
 
-  num_is : (n : ℤ) → value_of (e.Num n) ts ls ≡ n
-  num_is n = value_num ts ls n
-
   -- a choice by whether there is a position
   pub picked_placed : (x u v : IExpr) (q : ℕ) → value_of x ts ls ≡ pos q → value_of (e.Pick (e.Two op.Lt x (e.Num (pos 0))) u v) ts ls ≡ value_of v ts ls
   picked_placed x u v q h =
-      choice_of x (e.Num (pos 0)) u v (pos q) (pos 0) h (num_is (pos 0))
+      choice_of x (e.Num (pos 0)) u v (pos q) (pos 0) h (value_num ts ls (pos 0))
       ∙ ap (λ (b : Bool). if b then value_of u ts ls else value_of v ts ls) (lt_zero q)
 
   pub picked_none : (x u v : IExpr) (k : ℕ) → value_of x ts ls ≡ negsuc k → value_of (e.Pick (e.Two op.Lt x (e.Num (pos 0))) u v) ts ls ≡ value_of u ts ls
-  picked_none x u v k h = choice_of x (e.Num (pos 0)) u v (negsuc k) (pos 0) h (num_is (pos 0))
+  picked_none x u v k h = choice_of x (e.Num (pos 0)) u v (negsuc k) (pos 0) h (value_num ts ls (pos 0))
 
   pub placed : (at q : ℕ) (v : IExpr) → slice_index_or ls at (pos 0) ≡ pos q → value_of (where_placed at v) ts ls ≡ value_of v ts ls
   placed at q v h = picked_placed (e.Local at) none v q (local_is at (pos q) h)
 
   pub not_placed : (at : ℕ) (v : IExpr) → slice_index_or ls at (pos 0) ≡ negsuc 0 → value_of (where_placed at v) ts ls ≡ negsuc 0
-  not_placed at v h = picked_none (e.Local at) none v 0 (local_is at (negsuc 0) h) ∙ num_is (negsuc 0)
+  not_placed at v h = picked_none (e.Local at) none v 0 (local_is at (negsuc 0) h) ∙ value_num ts ls (negsuc 0)

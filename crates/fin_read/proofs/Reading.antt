@@ -91,7 +91,7 @@ module _ (ts : ℕ → Tensor) (tensor : ℕ) (fill : ℤ) (at : ℕ) where
 -- ---- the first step
 
 -- 1 where there are coordinates
-abbrev inside : Option (List ℕ) → ℤ
+abbrev pub inside : Option (List ℕ) → ℤ
 inside None = pos 0
 inside (Some cs) = pos 1
 
@@ -110,7 +110,7 @@ module _ (ts : ℕ → Tensor) (ls : List ℤ) where
         | false ↦ value_num ts ls (pos 0)
       ])
 
-  box_value : (shape : List ℕ) (xs : List IExpr) → value_of (in_box shape xs) ts ls ≡ inside (coordinates shape (map (λ (x : IExpr). value_of x ts ls) xs))
+  pub box_value : (shape : List ℕ) (xs : List IExpr) → value_of (in_box shape xs) ts ls ≡ inside (coordinates shape (map (λ (x : IExpr). value_of x ts ls) xs))
   box_value [] [] = value_num ts ls (pos 1)
   box_value [] (x ∷ xs) = value_num ts ls (pos 0)
   box_value (n ∷ ns) [] = value_num ts ls (pos 0)

@@ -13,9 +13,6 @@ use Rattle.fin_read.specs.Means.{IsRead}
 pub agree_refl : (n : ℕ) (ls : List ℤ) → Agree n ls ls
 agree_refl n ls k lt = refl
 
-pub agree_sym : (n : ℕ) (ks ls : List ℤ) → Agree n ks ls → Agree n ls ks
-agree_sym n ks ls h k lt = sym (h k lt)
-
 pub agree_then : (n : ℕ) (js ks ls : List ℤ) → Agree n js ks → Agree n ks ls → Agree n js ls
 agree_then n js ks ls g h k lt = g k lt ∙ h k lt
 
@@ -33,10 +30,6 @@ agree_set n local ls z le k lt =
 pub stepped_append : (ts : ℕ → Tensor) (a b : List Step) (ls : List ℤ) → stepped ts (a ++ b) ls ≡ stepped ts b (stepped ts a ls)
 stepped_append ts [] b ls = refl
 stepped_append ts (s ∷ a) b ls = stepped_append ts a b (slice_set ls s.local (value_of s.value ts ls))
-
-pub stepped_long : (ts : ℕ → Tensor) (a : List Step) (ls : List ℤ) → length (stepped ts a ls) ≡ length ls
-stepped_long ts [] ls = refl
-stepped_long ts (s ∷ a) ls = stepped_long ts a (slice_set ls s.local (value_of s.value ts ls)) ∙ length-set ls s.local (value_of s.value ts ls)
 
 -- ---- steps that leave a value in a local
 

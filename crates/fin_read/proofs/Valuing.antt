@@ -26,9 +26,9 @@ use Rattle.fin_read.specs.Sees.{SeesAll}
 use Rattle.fin_read.specs.Means.{AreAt, IsRead, IsWithin, IsValued, ValuesMean}
 use Rattle.fin_read.proofs.ByKind.{Kinds, by_kind}
 use Rattle.fin_read.proofs.Equations.{lowered, code_num, code_var, code_read, code_neg, code_two, named_var, named_read, named_neg, named_two, reads_read, reads_neg, reads_two, small_read, small_neg, small_two, code_grows}
-use Rattle.fin_read.proofs.Following.{same_locals, through, below, follows}
 use Rattle.fin_read.proofs.Indexing.{indices_are}
 use Rattle.fin_read.proofs.Reading.{reads_mean}
+use Rattle.fin_read.proofs.Stepping.{agree_refl, agree_then, agree_less, stepped_append}
 
 module _ (h : Heads) (ts : ℕ → Tensor) (fs : Tensors) (s : Scope) (vars : Numbers) (sees : SeesAll h ts fs) (within : IsWithin s (length vars)) where
   -- what is known of an expression where its code begins
@@ -50,7 +50,7 @@ module _ (h : Heads) (ts : ℕ → Tensor) (fs : Tensors) (s : Scope) (vars : Nu
   num : (n : ℤ) → Valued (e.Num n)
   num n next ls asked = by_equations (value_code h (e.Num n) next) (lowered [] (Num n) next) next ls (language.value_of (e.Num n) vars fs) n (code_num h next n) (meant.value_num vars fs n) (record {
     long = refl;
-    kept = same_locals next ls;
+    kept = agree_refl next ls;
     grows = omega arith;
     value = λ ks same. value_num ts ks n;
   })
@@ -60,7 +60,7 @@ module _ (h : Heads) (ts : ℕ → Tensor) (fs : Tensors) (s : Scope) (vars : Nu
       let here : v < length vars = within v (sym (named_var s v line) ∙ asked.named) in
       by_equations (value_code h (e.Var v line) next) (lowered [] (Local v) next) next ls (language.value_of (e.Var v line) vars fs) (number vars v) (code_var h next v line) (meant.value_var vars fs v line) (record {
         long = refl;
-        kept = same_locals next ls;
+        kept = agree_refl next ls;
         grows = omega arith;
         value = λ ks same. value_local ts ks v ∙ same v (omega (arith, here, asked.bound)) ∙ asked.agree v here;
       })
@@ -78,7 +78,7 @@ module _ (h : Heads) (ts : ℕ → Tensor) (fs : Tensors) (s : Scope) (vars : Nu
       let fill = (format_of h tensor).fill in
       let xs = map index_code at in
       let zs = map (place vars) at in
-      let there : AreAt ts next ls xs zs = λ ks same. indices_are ts s vars within ks (through (length vars) ks ls vars (below (length vars) next ks ls bound same) agree) at named small in
+      let there : AreAt ts next ls xs zs = λ ks same. indices_are ts s vars within ks (agree_then (length vars) ks ls vars (agree_less (length vars) next ks ls bound same) agree) at named small in
       let steps = read_steps tensor levels shape fill xs next in
       let got : IsRead ts steps next ls (value_in f (coordinates shape zs)) = reads_mean ts tensor levels shape fill f xs zs next ls (sees tensor f is) there (omega (arith, room)) in
       record {
@@ -128,14 +128,14 @@ module _ (h : Heads) (ts : ℕ → Tensor) (fs : Tensors) (s : Scope) (vars : Nu
   both_valued op a b next ls y z first second =
       let middle = stepped ts a.steps ls in
       let last = stepped ts b.steps middle in
-      let is : stepped ts (a.steps ++ b.steps) ls ≡ last = follows ts a.steps b.steps ls in
+      let is : stepped ts (a.steps ++ b.steps) ls ≡ last = stepped_append ts a.steps b.steps ls in
       record {
         long = ap length is ∙ second.long ∙ first.long;
-        kept = subst (λ (ks : List ℤ). Agree next ks ls) (sym is) (through next last middle ls (below next a.next last middle first.grows second.kept) first.kept);
+        kept = subst (λ (ks : List ℤ). Agree next ks ls) (sym is) (agree_then next last middle ls (agree_less next a.next last middle first.grows second.kept) first.kept);
         grows = omega (arith, first.grows, second.grows);
         value = λ ks same.
             let same_last : Agree b.next ks last = subst (λ (js : List ℤ). Agree b.next ks js) is same in
-            let same_middle : Agree a.next ks middle = through a.next ks last middle (below a.next b.next ks last second.grows same_last) second.kept in
+            let same_middle : Agree a.next ks middle = agree_then a.next ks last middle (agree_less a.next b.next ks last second.grows same_last) second.kept in
             value_two ts ks op a.value b.value ∙ ap (λ (u : ℤ). operate op u (value_of b.value ts ks)) (first.value ks same_middle) ∙ ap (λ (u : ℤ). operate op y u) (second.value ks same_last);
       }
 
@@ -163,7 +163,7 @@ module _ (h : Heads) (ts : ℕ → Tensor) (fs : Tensors) (s : Scope) (vars : Nu
         reads = right (can_read x fs) (can_read y fs) reads;
         small = right (has_small_indices x vars) (has_small_indices y vars) small;
         bound = omega (arith, asked.bound, first.grows);
-        agree = through (length vars) middle ls vars (below (length vars) next middle ls asked.bound first.kept) asked.agree;
+        agree = agree_then (length vars) middle ls vars (agree_less (length vars) next middle ls asked.bound first.kept) asked.agree;
         room = omega (arith, room, first.long);
       }) in
       by_equations (value_code h (e.Two op x y) next) (two_after op a b) next ls (language.value_of (e.Two op x y) vars fs) (operate op (language.value_of x vars fs) (language.value_of y vars fs)) code (meant.value_two vars fs op x y)

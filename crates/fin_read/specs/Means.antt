@@ -1,5 +1,5 @@
 -- What the code of accesses, counts and expressions gives: what the language means by them.
-use Rattle.std.specs.Prelude.{◌≡◌, ℕ, ◌<◌, ◌≤◌, ◌+◌, true, List, ◌∷◌, map, length, slice_index_or, ℤ, pos}
+use Rattle.std.specs.Prelude.{◌≡◌, ℕ, ◌<◌, ◌≤◌, ◌+◌, true, List, map, length, slice_index_or, ℤ, pos}
 use Rattle.std.specs.List.{list_all}
 use Rattle.fin_tensor.specs.declared.format.Level.{Level}
 use Rattle.fin_tensor.specs.TensorFunction.{TensorFunction}
@@ -16,7 +16,7 @@ use Rattle.fin_ir.specs.Value.{value_of}
 use Rattle.fin_ir.specs.Named.{is_named}
 use Rattle.fin_ir.specs.Named as named
 use Rattle.fin_stage.specs.Staged.{can_read, has_small_indices}
-use Rattle.fin_read.specs.Steps.{Step, stepped, assign_of, Agree}
+use Rattle.fin_read.specs.Steps.{Step, stepped, Agree}
 use Rattle.fin_read.specs.Reads.{read_steps}
 use Rattle.fin_read.specs.Counts.{count_code}
 use Rattle.fin_read.specs.Values.{Heads, Lowered, value_code, prelude}

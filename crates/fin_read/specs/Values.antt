@@ -1,6 +1,6 @@
 -- The code of expressions: first each access leaves its value in a local of its own, then there is an expression of loop
 -- code over these and the variables, each of which has the local of its number.
-use Rattle.std.specs.Prelude.{ℕ, ◌+◌, pos, List, [], ◌∷◌, ◌++◌, map, Option, Some, None, unwrap_or, option_map, slice_get, slice_index_or}
+use Rattle.std.specs.Prelude.{ℕ, ◌+◌, pos, List, [], ◌++◌, map, Option, Some, None, unwrap_or, option_map, slice_get, slice_index_or}
 use Rattle.fin_base.specs.declared.terms.Op.{Op}
 use Rattle.fin_base.specs.declared.terms.Op.TheVariants as op
 use Rattle.fin_tensor.specs.declared.format.Format.{Format}

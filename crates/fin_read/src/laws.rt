@@ -1,3 +1,4 @@
+//! What the code of accesses, counts and expressions means.
 ghost use Rattle.fin_read.specs.Means.{CountsMean, ReadsMean, ValuesAreNamed, ValuesMean};
 
 /// The steps of an access leave in a local the value that the language gives it, and leave the locals before as they

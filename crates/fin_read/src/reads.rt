@@ -301,8 +301,8 @@ pub fn in_box(alloc: Global, shape: &[u64], at: &[IExpr]) -> Result<IExpr, Alloc
     in_extent(alloc, shape[0], &at[0], rest)
 }
 
-/// The value where the index lies in the extent, else 0.
-pub fn in_extent(alloc: Global, n: u64, x: &IExpr, value: IExpr) -> Result<IExpr, AllocError>
+// The value where the index lies in the extent, else 0.
+fn in_extent(alloc: Global, n: u64, x: &IExpr, value: IExpr) -> Result<IExpr, AllocError>
     requires small { n ≤ 2 ^ 40 }
     ensures { IfOk result (λ e. e ≡ spec.in_extent n x.now value) }
 {

@@ -1,0 +1,121 @@
+//! The code of statements without bodies.
+ghost use Rattle.std.specs.Prelude.{◌≡◌, ◌≤◌, ◌^◌, ◌++◌, [], ◌∷◌, IfOk, OnOk, map};
+ghost use Rattle.fin_tensor.specs.Extents.{dense_size};
+ghost use Rattle.fin_tensor.specs.Levels.{AreSmall};
+ghost use Rattle.fin_stage.specs.Stages as stage;
+ghost use Rattle.fin_ir.specs.declared.code.Code.TheVariants as made;
+ghost use Rattle.fin_read.specs.Reads as reads;
+ghost use Rattle.fin_read.specs.Values as values;
+ghost use Rattle.fin_lower.specs.Built as built;
+ghost use Rattle.fin_lower.specs.Lowering as spec;
+
+use fin_ast::Index;
+use fin_base::Reduce;
+use fin_ir::{Code, IExpr};
+use fin_read::{Heads, count_expr, format_of, in_box, index_codes, shape_of};
+use fin_tensor::Level;
+use sqlite_items::{Boxed, Items};
+use std::alloc::{AllocError, Global};
+
+/// Appends a charge of 1.
+pub(crate) fn push_charge(into: &mut Items<Code>) -> Result<(), AllocError>
+    ensures { OnOk result (into.new ≡ into.old ++ spec.charge_of 1 ∷ []) }
+{
+    into.push(Code::Charge(IExpr::Num(1)))
+}
+
+/// The code of a declaration.
+pub(crate) fn declare_code(alloc: Global, heads: &Heads<'_>, tensor: u8) -> Result<Code, AllocError>
+    requires built { built.AreBuilt heads.now.headers.now heads.now.shapes.now }
+    ensures { IfOk result (λ c. c ≡ spec.declare_code (values.heads_of heads.now.headers.now heads.now.shapes.now) tensor) }
+{
+    let format = format_of(alloc, heads, tensor)?;
+    let front = dense_front(format.levels.as_slice(), shape_of(heads, tensor));
+    let mut declared = Items::new(alloc);
+    declared.push(Code::Declare { tensor })?;
+    declared.push(Code::Charge(IExpr::Num((1 + front) as i64)))?;
+    Ok(Code::Seq(declared))
+}
+
+// The product of the dense extents before the first other level.
+#[tactic(auto, using(crate::proofs::Fronts::size_part, crate::proofs::Fronts::front_ends, crate::proofs::Fronts::front_stops, crate::proofs::Fronts::size_ends))]
+fn dense_front(levels: &[Level], shape: &[u64]) -> u64
+    requires small { dense_size levels.now shape.now ≤ 2 ^ 24 }
+    ensures front { result ≡ stage.dense_front levels.now shape.now }
+    ensures within { result ≤ dense_size levels.now shape.now }
+{
+    if levels.is_empty() || shape.is_empty() {
+        return 1;
+    }
+    if levels[0] != Level::Dense {
+        return 1;
+    }
+    shape[0] * dense_front(&levels[1..], &shape[1..])
+}
+
+/// The code of a freeze.
+pub(crate) fn freeze_code(alloc: Global, heads: &Heads<'_>, tensor: u8) -> Result<Code, AllocError>
+    requires shapes { values.AreShapes heads.now.shapes.now }
+    ensures { IfOk result (λ c. c ≡ spec.freeze_code (values.heads_of heads.now.headers.now heads.now.shapes.now) tensor) }
+{
+    let count = count_of(alloc, heads, tensor)?;
+    let mut frozen = Items::new(alloc);
+    frozen.push(Code::Freeze { tensor })?;
+    push_charge(&mut frozen)?;
+    frozen.push(Code::Charge(count))?;
+    Ok(Code::Seq(frozen))
+}
+
+/// The code of a thaw.
+pub(crate) fn thaw_code(alloc: Global, heads: &Heads<'_>, tensor: u8) -> Result<Code, AllocError>
+    requires shapes { values.AreShapes heads.now.shapes.now }
+    ensures { IfOk result (λ c. c ≡ spec.thaw_code (values.heads_of heads.now.headers.now heads.now.shapes.now) tensor) }
+{
+    let count = count_of(alloc, heads, tensor)?;
+    let mut thawed = Items::new(alloc);
+    push_charge(&mut thawed)?;
+    thawed.push(Code::Charge(count))?;
+    thawed.push(Code::Thaw { tensor })?;
+    Ok(Code::Seq(thawed))
+}
+
+fn count_of(alloc: Global, heads: &Heads<'_>, tensor: u8) -> Result<IExpr, AllocError>
+    requires shapes { values.AreShapes heads.now.shapes.now }
+    ensures { IfOk result (λ e. e ≡ spec.count_of (values.heads_of heads.now.headers.now heads.now.shapes.now) tensor) }
+{
+    let format = format_of(alloc, heads, tensor)?;
+    count_expr(
+        alloc,
+        format.levels.as_slice(),
+        shape_of(heads, tensor),
+        tensor,
+    )
+}
+
+/// Appends the code of an update behind that of its value.
+pub(crate) fn push_update(
+    alloc: Global,
+    into: &mut Items<Code>,
+    shape: &[u64],
+    at: &[Index],
+    tensor: u8,
+    by: Reduce,
+    value: IExpr,
+) -> Result<(), AllocError>
+    requires small { AreSmall shape.now }
+    ensures { OnOk result (into.new ≡ into.old ++ made.When (reads.in_box shape.now (map values.index_code at.now)) (made.Update tensor (map values.index_code at.now) by value) ∷ spec.charge_of 1 ∷ []) }
+{
+    let at = index_codes(alloc, at)?;
+    let test = in_box(alloc, shape, at.as_slice())?;
+    let body = Boxed::new(
+        alloc,
+        Code::Update {
+            tensor,
+            at,
+            by,
+            value,
+        },
+    )?;
+    into.push(Code::When { test, body })?;
+    push_charge(into)
+}
