@@ -17,8 +17,8 @@ use fin_base::{Fail, Refusal};
 use fin_dense::plain;
 use fin_engine::{Job, check, run_job_one};
 use fin_ports::{Failed, Sink, put_all};
-use fin_text::WriteFail;
 use fin_tensor::Outputs;
+use fin_text::WriteFail;
 use fin_words::Mode;
 use std::alloc::Global;
 
@@ -96,12 +96,7 @@ fn evaluate<O: Sink>(alloc: Global, job: &Job, out: &mut O) -> Result<Answer, St
 }
 
 // Writes the outputs of a job.
-fn write<O: Sink>(
-    alloc: Global,
-    job: &Job,
-    outputs: &Outputs,
-    out: &mut O,
-) -> Result<Answer, Stop>
+fn write<O: Sink>(alloc: Global, job: &Job, outputs: &Outputs, out: &mut O) -> Result<Answer, Stop>
     requires stored { AreStored (function_of job.now.checked job.now.inputs) (outputs_from 0 job.now.checked.program.headers) outputs.now.tensors }
     ensures comes { (source : Across) → Comes source (across (O.taken out.old) (O.taken out.new) (O.faults out.old) (O.faults out.new)) (λ (due : Due). due ≡ due_outputs job.now outputs.now) result }
     ensures later { O.Later out.old out.new }

@@ -5,7 +5,7 @@ use crate::{finch, finch_one};
 use examples::EXAMPLES;
 use fin_ports::{MemSink, MemSource};
 use fin_words::asks_workers;
-use rows::{ENDLESS, LARGE, MASK, ROWS, TIMES};
+use rows::{ENDLESS, LARGE, MASK, MASK_TEXT, ROWS, TIMES, TIMES_TEXT};
 use std::alloc::{AllocError, Global};
 use std::process::Abort;
 use std::test::Fail;
@@ -373,14 +373,14 @@ fn limits_are_kept(rt: HostRuntime) -> Result<(), Fail> {
 const ENOUGH: [Case; 2] = [
     Case {
         words: &["finch", "run", "--budget", "23"],
-        job: TIMES.job,
-        out: TIMES.out,
+        job: TIMES,
+        out: TIMES_TEXT,
         ..RUN
     },
     Case {
         words: &["finch", "run", "--budget", "18"],
-        job: MASK.job,
-        out: MASK.out,
+        job: MASK,
+        out: MASK_TEXT,
         ..RUN
     },
 ];
@@ -394,12 +394,12 @@ const OVER: Case = Case {
 const TOO_LITTLE: [Case; 4] = [
     Case {
         words: &["finch", "run", "--budget", "22"],
-        job: TIMES.job,
+        job: TIMES,
         ..OVER
     },
     Case {
         words: &["finch", "run", "--budget", "17"],
-        job: MASK.job,
+        job: MASK,
         ..OVER
     },
     Case {

@@ -8,19 +8,23 @@ pub(super) struct Row {
 }
 
 /// A sparse matrix times a vector, whose work is 23.
-pub(super) const TIMES: Row = Row {
-    job: b"in A dense list element\nin x dense element\nout y dense element\ny .= 0\nfor i { for j { y[i] += A[i,j] * x[j] } }\n%%\ntensor A\nformat dense list element\nfill 0\nshape 2 3\nptr 1 0 2 3\nidx 1 0 2 1\nval 5 7 9\nend\ntensor x\nformat dense element\nfill 0\nshape 3\nval 1 2 3\nend\n",
-    out: b"tensor y\nformat dense element\nfill 0\nshape 2\nval 26 18\nend\n",
-};
+pub(super) const TIMES: &[u8] =
+    b"in A dense list element\nin x dense element\nout y dense element\ny .= 0\nfor i { for j { y[i] += A[i,j] * x[j] } }\n%%\ntensor A\nformat dense list element\nfill 0\nshape 2 3\nptr 1 0 2 3\nidx 1 0 2 1\nval 5 7 9\nend\ntensor x\nformat dense element\nfill 0\nshape 3\nval 1 2 3\nend\n";
+
+pub(super) const TIMES_TEXT: &[u8] =
+    b"tensor y\nformat dense element\nfill 0\nshape 2\nval 26 18\nend\n";
 
 /// The sum below a diagonal, whose work is 18.
-pub(super) const MASK: Row = Row {
-    job: b"in A dense dense element\nout s element\ns .= 0\nfor i { for j { if j < i { s[] += A[i,j] } } }\n%%\ntensor A\nformat dense dense element\nfill 0\nshape 2 2\nval 1 2 3 4\nend\n",
-    out: b"tensor s\nformat element\nfill 0\nshape\nval 3\nend\n",
-};
+pub(super) const MASK: &[u8] =
+    b"in A dense dense element\nout s element\ns .= 0\nfor i { for j { if j < i { s[] += A[i,j] } } }\n%%\ntensor A\nformat dense dense element\nfill 0\nshape 2 2\nval 1 2 3 4\nend\n";
+
+pub(super) const MASK_TEXT: &[u8] = b"tensor s\nformat element\nfill 0\nshape\nval 3\nend\n";
 
 pub(super) const ROWS: [Row; 16] = [
-    TIMES,
+    Row {
+        job: TIMES,
+        out: TIMES_TEXT,
+    },
     // a sum that wraps
     Row {
         job: b"out s element\ns .= 0\ns[] += 9223372036854775807\ns[] += 1\n%%\n",
@@ -76,7 +80,10 @@ pub(super) const ROWS: [Row; 16] = [
         job: b"out y dense element shape 2\ny .= 0\nfor i { y[i] += 1 }\nfreeze y\nfor i { y[i] += 2 }\n%%\n",
         out: b"tensor y\nformat dense element\nfill 0\nshape 2\nval 3 3\nend\n",
     },
-    MASK,
+    Row {
+        job: MASK,
+        out: MASK_TEXT,
+    },
     // a block and runs, two outputs
     Row {
         job: b"in x dense element\nout b band element\nout r runs element\nb .= 0\nr .= 0\nfor i { b[i] += x[i] r[i] += x[i] }\n%%\ntensor x\nformat dense element\nfill 0\nshape 6\nval 0 0 4 0 5 0\nend\n",
