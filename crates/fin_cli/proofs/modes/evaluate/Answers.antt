@@ -15,6 +15,6 @@ pub returns-in-Ok-clause-comes : goal.returns-in-Ok-clause-comes
 returns-in-Ok-clause-comes g c = λ source text is.
     comes_as (due_outputs c.args.job.now c.in-Ok.outputs) (IsDuePlain text) source _ c.write.result (plain_is text c.args.job.now c.as_slice.result.now c.in-Ok.outputs is c.as_slice.ensures c.in-Ok.ensures.plains) (c.write.ensures.comes source)
 
-pub returns-in-Err-clause-comes : goal.returns-clause-comes
+pub returns-in-Err-clause-comes : goal.returns-in-Err-clause-comes
 returns-in-Err-clause-comes g c = λ source text is.
     comes_over text c.args.job.now c.as_slice.result.now source _ c.in-Err.over c.failed.result is c.as_slice.ensures c.in-Err.ensures.plains c.failed.ensures refl

@@ -22,7 +22,7 @@ returns-in-Err-Fault-clause-comes g c = λ source.
     let part = c.in-Err-Fault.ensures.bytes in
     (c.in-Err-Fault.ensures.cause c.in-Err-Fault.field-0-is, (due_outputs job outputs, refl, (part.0, subst (λ t. Appends (g.O.Sink.taken c.args.out.now) (g.O.Sink.taken c.write_outputs.new.out) (take part.0 t)) same part.1)))
 
-pub returns-in-Err-Memory-clause-comes : goal.returns-clause-comes
+pub returns-in-Err-Memory-clause-comes : goal.returns-in-Err-Memory-clause-comes
 returns-in-Err-Memory-clause-comes g c = λ source.
     let job = c.args.job.now in let outputs = c.args.outputs.now in
     let same = text_is job outputs c.as_slice-headers.result.now c.as_slice.result.now c.as_slice-headers.ensures c.as_slice.ensures in
