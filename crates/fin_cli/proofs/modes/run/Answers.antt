@@ -4,7 +4,7 @@ use Rattle.fin_cli.proofs.Comings.{comes_as, comes_spent}
 use Rattle.fin_cli.proofs.modes.run.Goals as goal
 
 pub write-requires : goal.write-requires
-write-requires g c = record { stored = c.in-Ok.ensures.stored; }
+write-requires g c = record { stored = c.in-Ok.ensures.stored }
 
 pub returns-in-Ok-clause-comes : goal.returns-in-Ok-clause-comes
 returns-in-Ok-clause-comes g c = λ source text is.
