@@ -1,5 +1,5 @@
 -- How a mode ends, by what is due.
-use Rattle.std.proofs.Common.{◌≡◌, ◌<◌, ◌≤◌, ℕ, List, [], length, sym, ap, ap₂, subst, inl, inr, arith}
+use Rattle.std.proofs.Common.{◌≡◌, ◌≢◌, ◌<◌, ◌≤◌, ℕ, true, refl, IsOk, List, [], length, sym, ap, ap₂, subst, inl, inr, arith}
 use Rattle.std.specs.Prelude.{All, Ok, Err, Result}
 use Rattle.std.specs.Io.KnownBytes.{Appends}
 use Rattle.std.proofs.KnownBytes.{Appends-nil}
@@ -21,8 +21,8 @@ use Rattle.fin_dense.proofs.OnePlain.{stored_below}
 use Rattle.fin_engine.specs.Verdict.{Accepts, Checks, IsJob}
 use Rattle.fin_stage.specs.Staged.{coordinate_work}
 use Rattle.fin_engine.specs.Run.{IsSpent}
-use Rattle.fin_cli.specs.Due.{Due, IsDueMode, IsDuePlain, IsDueRead, IsDueRun, IsDueThen, IsRun, due_outputs, outputs_text, refused}
-use Rattle.fin_cli.specs.Ends.{Across, Took}
+use Rattle.fin_cli.specs.Due.{Due, IsDueMode, IsDuePlain, IsDueRead, IsDueRun, IsDueThen, IsRun, due_outputs, outputs_text, reads_job, refused}
+use Rattle.fin_cli.specs.Ends.{Across, Reads, Took}
 use Rattle.fin_cli.specs.Stops.{Comes, Fails, Refuses}
 use Rattle.fin_cli.specs.declared.outcome.Answer.{Answer}
 use Rattle.fin_cli.specs.declared.outcome.Stop.{Stop}
@@ -119,3 +119,11 @@ are_named c inputs outputs headers written is h o =
     λ k d lt. omega (arith, stored_below (function_of c inputs) 0 c.program.headers outputs.tensors k d is lt) in
     subst (λ (hs : List Header). All (λ (output : ℕ × Storage). output.0 < length hs) written) (sym h)
     (subst (All (λ (output : ℕ × Storage). output.0 < length c.program.headers)) (sym o) there)
+
+-- what comes of a mode that reads a job
+pub comes_of_mode : (budget : ℕ) (mode : Mode) (source out : Across) (job : List ℕ) (r : Result Answer Stop) → mode ≢ Gen → Reads source true job (IsOk r) → Comes source out (IsDueRead job (IsDueThen budget mode job)) r
+    → (x : List ℕ) × Reads source (reads_job mode) x (IsOk r) × Comes source out (IsDueMode budget mode x) r
+comes_of_mode budget Run source out job r other reads comes = (job, reads, comes)
+comes_of_mode budget Check source out job r other reads comes = (job, reads, comes)
+comes_of_mode budget Plain source out job r other reads comes = (job, reads, comes)
+comes_of_mode budget Gen source out job r other reads comes = absurd (other refl)
