@@ -19,9 +19,8 @@ use Rattle.fin_ast.specs.declared.header.Header.{Header}
 use Rattle.fin_dense.specs.Plain.{AreStored, IsOver, IsPlain, Plains, outputs_from}
 use Rattle.fin_dense.proofs.OnePlain.{stored_below}
 use Rattle.fin_engine.specs.Verdict.{Accepts, Checks, IsJob}
-use Rattle.fin_stage.specs.Staged.{coordinate_work}
 use Rattle.fin_engine.specs.Run.{IsSpent}
-use Rattle.fin_cli.specs.Due.{Due, IsDueMode, IsDuePlain, IsDueRead, IsDueRun, IsDueThen, IsRun, due_outputs, outputs_text, reads_job, refused}
+use Rattle.fin_cli.specs.Due.{Due, IsDueMode, IsDuePlain, IsDueRead, IsDueRun, IsDueThen, due_outputs, outputs_text, reads_job, refused}
 use Rattle.fin_cli.specs.Ends.{Across, Reads, Took}
 use Rattle.fin_cli.specs.Stops.{Comes, Fails, Refuses}
 use Rattle.fin_cli.specs.declared.outcome.Answer.{Answer}

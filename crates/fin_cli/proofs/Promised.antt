@@ -6,7 +6,6 @@ use Rattle.fin_ports.specs.Bytes.{most}
 use Rattle.fin_words.specs.declared.mode.Asked.{Asked}
 use Rattle.fin_words.specs.declared.mode.Mode.{Mode}
 use Rattle.fin_words.specs.declared.mode.Mode.TheVariants.{Run, Check, Plain, Gen}
-use Rattle.fin_dense.specs.Plain.{IsPlain}
 use Rattle.fin_engine.specs.Verdict.{IsJob}
 use Rattle.fin_engine.specs.declared.job.Job.{Job}
 use Rattle.fin_tensor.specs.declared.outputs.Outputs.{Outputs}
