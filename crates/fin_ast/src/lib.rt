@@ -11,8 +11,6 @@ mod header;
 mod mode;
 mod place;
 mod program;
-#[cfg(test)]
-mod tests;
 mod tree;
 
 pub use checked::{Checked, Dims, LoopWays, Ways};

@@ -8,8 +8,6 @@
 mod rule;
 mod seat;
 mod shared;
-#[cfg(test)]
-mod tests;
 mod words;
 
 pub use rule::Reducing;

@@ -8,7 +8,5 @@
 mod builder;
 mod places;
 mod rows;
-#[cfg(test)]
-mod tests;
 
 pub use builder::Builder;

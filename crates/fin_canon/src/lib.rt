@@ -19,8 +19,6 @@ mod laws;
 mod levels;
 mod lists;
 mod runs;
-#[cfg(test)]
-mod tests;
 
 pub use build::store;
 pub use laws::{

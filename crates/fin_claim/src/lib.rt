@@ -9,8 +9,6 @@ mod claims;
 mod rule;
 mod seat;
 mod shared;
-#[cfg(test)]
-mod tests;
 
 pub use claims::Claims;
 pub use rule::{Drawing, Holding, Limits};

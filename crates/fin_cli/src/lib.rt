@@ -16,6 +16,3 @@ mod top;
 pub use fin_words::asks_workers;
 pub use memory::finch_in_memory;
 pub use top::{finch, finch_one};
-
-#[cfg(test)]
-mod tests;

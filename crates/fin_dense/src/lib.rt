@@ -15,7 +15,5 @@ mod points;
 mod reads;
 mod run;
 mod setting;
-#[cfg(test)]
-mod tests;
 
 pub use evaluate::plain;

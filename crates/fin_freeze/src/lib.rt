@@ -7,8 +7,6 @@
 
 mod freezes;
 mod spans;
-#[cfg(test)]
-mod tests;
 mod thaws;
 
 pub use freezes::freeze;

@@ -6,8 +6,6 @@
 
 mod grid;
 mod places;
-#[cfg(test)]
-mod tests;
 
 pub use grid::Grid;
 pub use places::is_in_box;

@@ -7,4 +7,3 @@ pub mod Builds
 pub mod Freezing
 pub mod Seeks
 pub mod Fitting
-pub mod Asking

@@ -5,7 +5,6 @@ pub mod Machine
 pub mod Value
 pub mod Declares
 pub mod Meaning
-pub mod Asking
 pub mod Named
 pub mod Start
 pub mod Regular

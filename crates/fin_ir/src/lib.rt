@@ -10,8 +10,6 @@ mod code;
 mod copy;
 mod expression;
 mod layout;
-#[cfg(test)]
-mod tests;
 
 pub use code::Code;
 pub use expression::{IExpr, Table};

@@ -5,8 +5,6 @@
 mod laws;
 mod piece;
 mod tables;
-#[cfg(test)]
-mod tests;
 mod token;
 mod tokens;
 

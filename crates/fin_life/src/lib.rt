@@ -9,8 +9,6 @@ mod loops;
 mod mentions;
 mod modes;
 mod order;
-#[cfg(test)]
-mod tests;
 mod tracks;
 
 pub use insertion::complete;

@@ -14,8 +14,6 @@ mod laws;
 mod plan;
 mod single;
 mod statements;
-#[cfg(test)]
-mod tests;
 
 pub use laws::accepted_is_lowered;
 pub use plan::lower;

@@ -10,8 +10,6 @@ mod ends;
 mod rule;
 mod seat;
 mod shared;
-#[cfg(test)]
-mod tests;
 mod turns;
 
 pub use rule::{Plan, Turning, View};

@@ -32,8 +32,6 @@ mod scope;
 mod statements;
 mod syntax;
 mod terms;
-#[cfg(test)]
-mod tests;
 mod text;
 mod text_forms;
 mod text_names;

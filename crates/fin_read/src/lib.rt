@@ -14,8 +14,6 @@ mod counts;
 mod laws;
 mod parts;
 mod reads;
-#[cfg(test)]
-mod tests;
 mod values;
 
 pub use counts::count_expr;

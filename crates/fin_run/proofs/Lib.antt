@@ -5,4 +5,3 @@ pub mod Clamping
 pub mod Forgetting
 pub mod Sizes
 pub mod Running
-pub mod Trying

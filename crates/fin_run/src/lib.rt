@@ -10,16 +10,13 @@ mod chunks;
 mod declared;
 mod loads;
 mod places;
-#[cfg(test)]
-mod regularity;
 mod run;
 mod state;
 mod statements;
 mod storages;
-#[cfg(test)]
-mod tests;
 mod value;
 mod whole;
 
 pub use state::{Held, State};
+pub use storages::storage_at;
 pub use whole::run_code;

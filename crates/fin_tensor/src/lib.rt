@@ -17,8 +17,6 @@ mod placement;
 mod places;
 mod seq;
 mod storage;
-#[cfg(test)]
-mod tests;
 
 pub use coords::Coords;
 pub use draft::Draft;

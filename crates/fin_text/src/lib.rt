@@ -13,8 +13,6 @@ mod pieces;
 mod read;
 mod take;
 mod tensors;
-#[cfg(test)]
-mod tests;
 mod words;
 mod write;
 

@@ -7,8 +7,6 @@
 
 mod command;
 mod mode;
-#[cfg(test)]
-mod tests;
 mod words;
 
 pub use mode::{Asked, Mode};

@@ -1,5 +1,0 @@
-use Rattle.fin_atomic.specs.Seats.{IsOwn}
-use Rattle.fin_atomic.proofs.tests.work.Given as goal
-
-abbrev pub invariant-loop-i : goal.invariant-loop-i
-invariant-loop-i l = IsOwn l.words l.part.seat

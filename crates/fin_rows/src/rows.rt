@@ -1,0 +1,127 @@
+//! Jobs that run, with what they write.
+
+/// A job and the text of its outputs.
+#[derive(Clone, Copy)]
+pub(crate) struct Row {
+    pub(crate) job: &'static [u8],
+    pub(crate) out: &'static [u8],
+}
+
+/// A sparse matrix times a vector, whose work is 23.
+pub(crate) const TIMES: &[u8] =
+    b"in A dense list element\nin x dense element\nout y dense element\ny .= 0\nfor i { for j { y[i] += A[i,j] * x[j] } }\n%%\ntensor A\nformat dense list element\nfill 0\nshape 2 3\nptr 1 0 2 3\nidx 1 0 2 1\nval 5 7 9\nend\ntensor x\nformat dense element\nfill 0\nshape 3\nval 1 2 3\nend\n";
+
+pub(crate) const TIMES_TEXT: &[u8] =
+    b"tensor y\nformat dense element\nfill 0\nshape 2\nval 26 18\nend\n";
+
+/// The sum below a diagonal, whose work is 18.
+pub(crate) const MASK: &[u8] =
+    b"in A dense dense element\nout s element\ns .= 0\nfor i { for j { if j < i { s[] += A[i,j] } } }\n%%\ntensor A\nformat dense dense element\nfill 0\nshape 2 2\nval 1 2 3 4\nend\n";
+
+pub(crate) const MASK_TEXT: &[u8] = b"tensor s\nformat element\nfill 0\nshape\nval 3\nend\n";
+
+pub(crate) const ROWS: [Row; 20] = [
+    Row {
+        job: TIMES,
+        out: TIMES_TEXT,
+    },
+    // a sum that wraps
+    Row {
+        job: b"out s element\ns .= 0\ns[] += 9223372036854775807\ns[] += 1\n%%\n",
+        out: b"tensor s\nformat element\nfill 0\nshape\nval -9223372036854775808\nend\n",
+    },
+    // no rows
+    Row {
+        job: b"in A dense list element\nout B dense list element\nB .= 0\nfor i { for j { B[i,j] += A[i,j] } }\n%%\ntensor A\nformat dense list element\nfill 0\nshape 0 3\nptr 1 0\nidx 1\nval\nend\n",
+        out: b"tensor B\nformat dense list element\nfill 0\nshape 0 3\nptr 1 0\nidx 1\nval\nend\n",
+    },
+    // a stored fill
+    Row {
+        job: b"in A dense list element\nout B dense list element\nB .= 0\nfor i { for j { B[i,j] += A[i,j] } }\n%%\ntensor A\nformat dense list element\nfill 0\nshape 1 3\nptr 1 0 2\nidx 1 0 2\nval 0 4\nend\n",
+        out: b"tensor B\nformat dense list element\nfill 0\nshape 1 3\nptr 1 0 1\nidx 1 2\nval 4\nend\n",
+    },
+    // gaps count
+    Row {
+        job: b"in L list element\nout s element fill 100\ns .= 100\nfor i { s[] min= L[i] }\n%%\ntensor L\nformat list element\nfill 0\nshape 4\nptr 0 0 1\nidx 0 2\nval 5\nend\n",
+        out: b"tensor s\nformat element\nfill 100\nshape\nval 0\nend\n",
+    },
+    // an even run
+    Row {
+        job: b"in R runs element\nout s element\ns .= 0\nfor i { s[] xor= R[i] }\n%%\ntensor R\nformat runs element\nfill 0\nshape 4\nptr 0 0 1\nstop 0 4\nval 6\nend\n",
+        out: b"tensor s\nformat element\nfill 0\nshape\nval 0\nend\n",
+    },
+    // an odd run
+    Row {
+        job: b"in R runs element\nout s element\ns .= 0\nfor i { s[] xor= R[i] }\n%%\ntensor R\nformat runs element\nfill 0\nshape 5\nptr 0 0 1\nstop 0 5\nval 6\nend\n",
+        out: b"tensor s\nformat element\nfill 0\nshape\nval 6\nend\n",
+    },
+    // a power
+    Row {
+        job: b"in R runs element\nout s element fill 1\ns .= 1\nfor i { s[] *= R[i] }\n%%\ntensor R\nformat runs element\nfill 0\nshape 5\nptr 0 0 1\nstop 0 5\nval 3\nend\n",
+        out: b"tensor s\nformat element\nfill 1\nshape\nval 243\nend\n",
+    },
+    // a sparse matrix times another
+    Row {
+        job: b"in A dense list element\nin B dense list element\nout C dense list element\ntmp w dense element\nC .= 0\nfor i {\n  w .= 0\n  for k { for j { w[j] += A[i,k] * B[k,j] } }\n  for j { C[i,j] += w[j] }\n}\n%%\ntensor A\nformat dense list element\nfill 0\nshape 2 2\nptr 1 0 2 3\nidx 1 0 1 1\nval 1 2 3\nend\ntensor B\nformat dense list element\nfill 0\nshape 2 3\nptr 1 0 1 2\nidx 1 1 0\nval 4 5\nend\n",
+        out: b"tensor C\nformat dense list element\nfill 0\nshape 2 3\nptr 1 0 2 3\nidx 1 0 1 0\nval 10 4 15\nend\n",
+    },
+    // neighbours, and the fill outside
+    Row {
+        job: b"in x dense element\nout y dense element shape 3\ny .= 0\nfor i { for k in 0..3 { y[i] += x[~(i+k-1)] } }\n%%\ntensor x\nformat dense element\nfill 0\nshape 3\nval 1 2 3\nend\n",
+        out: b"tensor y\nformat dense element\nfill 0\nshape 3\nval 3 6 5\nend\n",
+    },
+    // a shift
+    Row {
+        job: b"in A dense element\nout y dense element shape 3\ny .= 0\nfor i in 0..2 { y[i] += A[i+1] }\n%%\ntensor A\nformat dense element\nfill 0\nshape 3\nval 1 2 3\nend\n",
+        out: b"tensor y\nformat dense element\nfill 0\nshape 3\nval 2 3 0\nend\n",
+    },
+    // frozen and thawed
+    Row {
+        job: b"out y dense element shape 2\ny .= 0\nfor i { y[i] += 1 }\nfreeze y\nfor i { y[i] += 2 }\n%%\n",
+        out: b"tensor y\nformat dense element\nfill 0\nshape 2\nval 3 3\nend\n",
+    },
+    Row {
+        job: MASK,
+        out: MASK_TEXT,
+    },
+    // a block and runs, two outputs
+    Row {
+        job: b"in x dense element\nout b band element\nout r runs element\nb .= 0\nr .= 0\nfor i { b[i] += x[i] r[i] += x[i] }\n%%\ntensor x\nformat dense element\nfill 0\nshape 6\nval 0 0 4 0 5 0\nend\n",
+        out: b"tensor b\nformat band element\nfill 0\nshape 6\nptr 0 0 3\nstart 0 2\nval 4 0 5\nend\ntensor r\nformat runs element\nfill 0\nshape 6\nptr 0 0 5\nstop 0 2 3 4 5 6\nval 0 4 0 5 0\nend\n",
+    },
+    // a bound value
+    Row {
+        job: b"in x dense element\nout s element\ns .= 0\nlet v = x[2] { s[] += v * v }\n%%\ntensor x\nformat dense element\nfill 0\nshape 3\nval 1 2 3\nend\n",
+        out: b"tensor s\nformat element\nfill 0\nshape\nval 9\nend\n",
+    },
+    // a variable as value; a read outside; a variable that is bound for a while; tests of numbers
+    Row {
+        job: b"out y dense element fill 5 shape 3\ny .= 5\nfor i { y[i] += i }\n%%\n",
+        out: b"tensor y\nformat dense element\nfill 5\nshape 3\nval 5 6 7\nend\n",
+    },
+    Row {
+        job: b"in x dense element fill 5\nout y dense element fill 5 shape 3\ny .= 5\nfor i { y[i] = x[~(i+1)] }\n%%\ntensor x\nformat dense element\nfill 5\nshape 3\nval 0 1 2\nend\n",
+        out: b"tensor y\nformat dense element\nfill 5\nshape 3\nval 1 2 5\nend\n",
+    },
+    Row {
+        job: b"out y dense element fill 5 shape 3\ntmp t element\ny .= 5\nlet i = 9 - 7 { t .= 0 y[0] = i }\ny[1] = 0\n%%\n",
+        out: b"tensor y\nformat dense element\nfill 5\nshape 3\nval 2 0 5\nend\n",
+    },
+    Row {
+        job: b"out y dense element fill 5 shape 3\ny .= 5\nif 0 { y[0] = 1 }\nif -1 { y[2] = 1 }\n%%\n",
+        out: b"tensor y\nformat dense element\nfill 5\nshape 3\nval 5 5 1\nend\n",
+    },
+    // nothing
+    Row {
+        job: b"%%\n",
+        out: b"",
+    },
+];
+
+/// A loop over 2^40 coordinates.
+pub(crate) const ENDLESS: &[u8] =
+    b"in R runs element\nout s element\ns .= 0\nfor i { s[] += R[i] }\n%%\ntensor R\nformat runs element\nfill 0\nshape 1099511627776\nptr 0 0 1\nstop 0 1099511627776\nval 3\nend\n";
+
+/// An output with 65,537 blocks of 2^24 values, made by as many turns.
+pub(crate) const LARGE: &[u8] =
+    b"out b band dense element shape 1099511627776 16777216\nb .= 0\nfor i in 0..65537 { b[i,0] += 1 }\n%%\n";

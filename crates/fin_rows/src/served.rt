@@ -1,0 +1,87 @@
+//! Jobs that run, in both modes that run them, and their budgets.
+use crate::case::{Case, REFUSED, RUN, ends_as};
+use crate::examples::EXAMPLES;
+use crate::rows::{ENDLESS, LARGE, MASK, MASK_TEXT, ROWS, TIMES, TIMES_TEXT};
+use std::test::Fail;
+
+const MODES: [&[&str]; 2] = [&["finch", "run"], &["finch", "plain"]];
+
+#[test]
+fn each_job_is_served(rt: HostRuntime) -> Result<(), Fail> {
+    for row in ROWS.iter().chain(&EXAMPLES) {
+        for words in MODES {
+            let case = Case {
+                words,
+                job: row.job,
+                out: row.out,
+                ..RUN
+            };
+            ends_as(&rt, rt.alloc(), &case)?;
+        }
+    }
+    Ok(())
+}
+
+// Evaluation stops at a turn too many, and an output that is too large isn't stored.
+#[test]
+fn limits_are_kept(rt: HostRuntime) -> Result<(), Fail> {
+    for job in [ENDLESS, LARGE] {
+        let case = Case {
+            words: MODES[1],
+            job,
+            err: b"refused B2 line 0\n",
+            ..REFUSED
+        };
+        ends_as(&rt, rt.alloc(), &case)?;
+    }
+    Ok(())
+}
+
+// A run ends whole where its budget is its work.
+const ENOUGH: [Case; 2] = [
+    Case {
+        words: &["finch", "run", "--budget", "23"],
+        job: TIMES,
+        out: TIMES_TEXT,
+        ..RUN
+    },
+    Case {
+        words: &["finch", "run", "--budget", "18"],
+        job: MASK,
+        out: MASK_TEXT,
+        ..RUN
+    },
+];
+
+// It doesn't where that is less. An output that is too large is over every budget.
+const OVER: Case = Case {
+    err: b"refused W1 line 0\n",
+    ..REFUSED
+};
+
+const TOO_LITTLE: [Case; 4] = [
+    Case {
+        words: &["finch", "run", "--budget", "22"],
+        job: TIMES,
+        ..OVER
+    },
+    Case {
+        words: &["finch", "run", "--budget", "17"],
+        job: MASK,
+        ..OVER
+    },
+    Case {
+        words: &["finch", "run", "--budget", "1000"],
+        job: ENDLESS,
+        ..OVER
+    },
+    Case { job: LARGE, ..OVER },
+];
+
+#[test]
+fn budgets_are_kept(rt: HostRuntime) -> Result<(), Fail> {
+    for case in ENOUGH.iter().chain(&TOO_LITTLE) {
+        ends_as(&rt, rt.alloc(), case)?;
+    }
+    Ok(())
+}
