@@ -22,11 +22,6 @@ small_rest (n ∷ ns) h k lt = h (suc k) (omega (arith, lt))
 pub small_part : (ns : List ℕ) → AreSmall ns → AreSmall (take (length ns - 1) (drop 1 ns))
 small_part ns h = subst AreSmall (sym (take_rest ns)) (small_rest ns h)
 
-pub one_shape : (n : ℕ) → n ≤ 2 ^ 40 → AreShapes ((n ∷ []) ∷ [])
-one_shape n h zero zero lt = h
-one_shape n h zero (suc k) lt = absurd (omega (arith, lt))
-one_shape n h (suc tensor) k lt = absurd (omega (arith, lt))
-
 pub count_ends : (tensor k : ℕ) (ls : List Level) (ns : List ℕ) (count : IExpr) → length ns ≡ 0 → count_from tensor k ls ns count ≡ count
 count_ends tensor k [] ns count h = refl
 count_ends tensor k (l ∷ ls) [] count h = refl
