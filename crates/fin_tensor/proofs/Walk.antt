@@ -63,11 +63,11 @@ when_true : (b : Bool) (q m : ℕ) → (b ≡ true → q < m) → IfSome (cond b
 when_true true q m h = h refl
 when_true false q m h = tt
 
-and_first : (a b : Bool) → (a && b) ≡ true → a ≡ true
+pub and_first : (a b : Bool) → (a && b) ≡ true → a ≡ true
 and_first true b h = refl
 and_first false b h = h
 
-and_second : (a b : Bool) → (a && b) ≡ true → b ≡ true
+pub and_second : (a b : Bool) → (a && b) ≡ true → b ≡ true
 and_second true b h = h
 and_second false b h = cc
 

@@ -5,6 +5,7 @@ pub mod Levels
 pub mod Lines
 pub mod OneProof
 pub mod Order
+pub mod Pieces
 pub mod Placement
 pub mod Stands
 pub mod TensorFunction
