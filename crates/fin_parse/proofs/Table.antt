@@ -1,7 +1,9 @@
 -- What the table of the grammar keeps, form by form and class by class.
-use Rattle.std.proofs.Common.{◌≡◌, ℕ, ◌<◌, ◌≤◌, ◌==◌, Bool, true, false, not, ◌||◌, ◌&&◌, List, [], ◌∷◌, Option, Some, None, refl, sym, ap, ◌∙◌, subst, ◌^◌, lit≤, lit<}
+use Rattle.std.proofs.Common.{◌≡◌, ℕ, zero, suc, ◌<◌, ◌≤◌, ◌==◌, Bool, true, false, not, ◌||◌, ◌&&◌, List, [], ◌∷◌, Option, Some, None, refl, sym, ap, ◌∙◌, subst, ◌^◌, arith}
 use Rattle.std.specs.Prelude.{slice_get}
-use Rattle.std.proofs.lemmas.Bool.{eqb-true}
+use Rattle.std.specs.List.{list_all}
+use Rattle.std.proofs.Math.Dec.{leb}
+use Rattle.std.proofs.lemmas.Bool.{eqb-true, leb-true}
 use Rattle.fin_parse.specs.declared.class.Class.{Class}
 use Rattle.fin_parse.specs.declared.class.Class.TheVariants as class
 use Rattle.fin_parse.specs.declared.grammar.Phrase.{Phrase}
@@ -26,477 +28,255 @@ implied true b h k = h
 implied false b h k = impossible k
 
 -- ---- a test of every class
+-- ---- tests of every class, form and phrase, which the checker computes
 
-abbrev every : (Class → Bool) → Bool
-every t = t class.In && (t class.OutOrTmp && (t class.Fill && (t class.Shape && (t class.Loop && (t class.If && (t class.Let && (t class.Turn && (t class.Protocol && (t class.Call && (t class.Store && (t class.Element && (t class.OpenBracket && (t class.CloseBracket && (t class.OpenParenthesis && (t class.CloseParenthesis && (t class.OpenBrace && (t class.CloseBrace && (t class.Comma && (t class.Tilde && (t class.Plus && (t class.Minus && (t class.Star && (t class.Comparison && (t class.Equals && (t class.Reducing && (t class.Declares && (t class.Dots && (t class.Name && (t class.Number && (t class.Widest && (t class.Unknown && (t class.End))))))))))))))))))))))))))))))))
+some_same : {A : Type 0} {x y : A} → Some x ≡ Some y → x ≡ y
+some_same e = cc
 
-at_each : (t : Class → Bool) → every t ≡ true → (c : Class) → t c ≡ true
-at_each t h class.In = (both (t class.In) (t class.OutOrTmp && (t class.Fill && (t class.Shape && (t class.Loop && (t class.If && (t class.Let && (t class.Turn && (t class.Protocol && (t class.Call && (t class.Store && (t class.Element && (t class.OpenBracket && (t class.CloseBracket && (t class.OpenParenthesis && (t class.CloseParenthesis && (t class.OpenBrace && (t class.CloseBrace && (t class.Comma && (t class.Tilde && (t class.Plus && (t class.Minus && (t class.Star && (t class.Comparison && (t class.Equals && (t class.Reducing && (t class.Declares && (t class.Dots && (t class.Name && (t class.Number && (t class.Widest && (t class.Unknown && (t class.End)))))))))))))))))))))))))))))))) h).0
-at_each t h class.OutOrTmp = (both (t class.OutOrTmp) (t class.Fill && (t class.Shape && (t class.Loop && (t class.If && (t class.Let && (t class.Turn && (t class.Protocol && (t class.Call && (t class.Store && (t class.Element && (t class.OpenBracket && (t class.CloseBracket && (t class.OpenParenthesis && (t class.CloseParenthesis && (t class.OpenBrace && (t class.CloseBrace && (t class.Comma && (t class.Tilde && (t class.Plus && (t class.Minus && (t class.Star && (t class.Comparison && (t class.Equals && (t class.Reducing && (t class.Declares && (t class.Dots && (t class.Name && (t class.Number && (t class.Widest && (t class.Unknown && (t class.End))))))))))))))))))))))))))))))) (both (t class.In) (t class.OutOrTmp && (t class.Fill && (t class.Shape && (t class.Loop && (t class.If && (t class.Let && (t class.Turn && (t class.Protocol && (t class.Call && (t class.Store && (t class.Element && (t class.OpenBracket && (t class.CloseBracket && (t class.OpenParenthesis && (t class.CloseParenthesis && (t class.OpenBrace && (t class.CloseBrace && (t class.Comma && (t class.Tilde && (t class.Plus && (t class.Minus && (t class.Star && (t class.Comparison && (t class.Equals && (t class.Reducing && (t class.Declares && (t class.Dots && (t class.Name && (t class.Number && (t class.Widest && (t class.Unknown && (t class.End)))))))))))))))))))))))))))))))) h).1).0
-at_each t h class.Fill = (both (t class.Fill) (t class.Shape && (t class.Loop && (t class.If && (t class.Let && (t class.Turn && (t class.Protocol && (t class.Call && (t class.Store && (t class.Element && (t class.OpenBracket && (t class.CloseBracket && (t class.OpenParenthesis && (t class.CloseParenthesis && (t class.OpenBrace && (t class.CloseBrace && (t class.Comma && (t class.Tilde && (t class.Plus && (t class.Minus && (t class.Star && (t class.Comparison && (t class.Equals && (t class.Reducing && (t class.Declares && (t class.Dots && (t class.Name && (t class.Number && (t class.Widest && (t class.Unknown && (t class.End)))))))))))))))))))))))))))))) (both (t class.OutOrTmp) (t class.Fill && (t class.Shape && (t class.Loop && (t class.If && (t class.Let && (t class.Turn && (t class.Protocol && (t class.Call && (t class.Store && (t class.Element && (t class.OpenBracket && (t class.CloseBracket && (t class.OpenParenthesis && (t class.CloseParenthesis && (t class.OpenBrace && (t class.CloseBrace && (t class.Comma && (t class.Tilde && (t class.Plus && (t class.Minus && (t class.Star && (t class.Comparison && (t class.Equals && (t class.Reducing && (t class.Declares && (t class.Dots && (t class.Name && (t class.Number && (t class.Widest && (t class.Unknown && (t class.End))))))))))))))))))))))))))))))) (both (t class.In) (t class.OutOrTmp && (t class.Fill && (t class.Shape && (t class.Loop && (t class.If && (t class.Let && (t class.Turn && (t class.Protocol && (t class.Call && (t class.Store && (t class.Element && (t class.OpenBracket && (t class.CloseBracket && (t class.OpenParenthesis && (t class.CloseParenthesis && (t class.OpenBrace && (t class.CloseBrace && (t class.Comma && (t class.Tilde && (t class.Plus && (t class.Minus && (t class.Star && (t class.Comparison && (t class.Equals && (t class.Reducing && (t class.Declares && (t class.Dots && (t class.Name && (t class.Number && (t class.Widest && (t class.Unknown && (t class.End)))))))))))))))))))))))))))))))) h).1).1).0
-at_each t h class.Shape = (both (t class.Shape) (t class.Loop && (t class.If && (t class.Let && (t class.Turn && (t class.Protocol && (t class.Call && (t class.Store && (t class.Element && (t class.OpenBracket && (t class.CloseBracket && (t class.OpenParenthesis && (t class.CloseParenthesis && (t class.OpenBrace && (t class.CloseBrace && (t class.Comma && (t class.Tilde && (t class.Plus && (t class.Minus && (t class.Star && (t class.Comparison && (t class.Equals && (t class.Reducing && (t class.Declares && (t class.Dots && (t class.Name && (t class.Number && (t class.Widest && (t class.Unknown && (t class.End))))))))))))))))))))))))))))) (both (t class.Fill) (t class.Shape && (t class.Loop && (t class.If && (t class.Let && (t class.Turn && (t class.Protocol && (t class.Call && (t class.Store && (t class.Element && (t class.OpenBracket && (t class.CloseBracket && (t class.OpenParenthesis && (t class.CloseParenthesis && (t class.OpenBrace && (t class.CloseBrace && (t class.Comma && (t class.Tilde && (t class.Plus && (t class.Minus && (t class.Star && (t class.Comparison && (t class.Equals && (t class.Reducing && (t class.Declares && (t class.Dots && (t class.Name && (t class.Number && (t class.Widest && (t class.Unknown && (t class.End)))))))))))))))))))))))))))))) (both (t class.OutOrTmp) (t class.Fill && (t class.Shape && (t class.Loop && (t class.If && (t class.Let && (t class.Turn && (t class.Protocol && (t class.Call && (t class.Store && (t class.Element && (t class.OpenBracket && (t class.CloseBracket && (t class.OpenParenthesis && (t class.CloseParenthesis && (t class.OpenBrace && (t class.CloseBrace && (t class.Comma && (t class.Tilde && (t class.Plus && (t class.Minus && (t class.Star && (t class.Comparison && (t class.Equals && (t class.Reducing && (t class.Declares && (t class.Dots && (t class.Name && (t class.Number && (t class.Widest && (t class.Unknown && (t class.End))))))))))))))))))))))))))))))) (both (t class.In) (t class.OutOrTmp && (t class.Fill && (t class.Shape && (t class.Loop && (t class.If && (t class.Let && (t class.Turn && (t class.Protocol && (t class.Call && (t class.Store && (t class.Element && (t class.OpenBracket && (t class.CloseBracket && (t class.OpenParenthesis && (t class.CloseParenthesis && (t class.OpenBrace && (t class.CloseBrace && (t class.Comma && (t class.Tilde && (t class.Plus && (t class.Minus && (t class.Star && (t class.Comparison && (t class.Equals && (t class.Reducing && (t class.Declares && (t class.Dots && (t class.Name && (t class.Number && (t class.Widest && (t class.Unknown && (t class.End)))))))))))))))))))))))))))))))) h).1).1).1).0
-at_each t h class.Loop = (both (t class.Loop) (t class.If && (t class.Let && (t class.Turn && (t class.Protocol && (t class.Call && (t class.Store && (t class.Element && (t class.OpenBracket && (t class.CloseBracket && (t class.OpenParenthesis && (t class.CloseParenthesis && (t class.OpenBrace && (t class.CloseBrace && (t class.Comma && (t class.Tilde && (t class.Plus && (t class.Minus && (t class.Star && (t class.Comparison && (t class.Equals && (t class.Reducing && (t class.Declares && (t class.Dots && (t class.Name && (t class.Number && (t class.Widest && (t class.Unknown && (t class.End)))))))))))))))))))))))))))) (both (t class.Shape) (t class.Loop && (t class.If && (t class.Let && (t class.Turn && (t class.Protocol && (t class.Call && (t class.Store && (t class.Element && (t class.OpenBracket && (t class.CloseBracket && (t class.OpenParenthesis && (t class.CloseParenthesis && (t class.OpenBrace && (t class.CloseBrace && (t class.Comma && (t class.Tilde && (t class.Plus && (t class.Minus && (t class.Star && (t class.Comparison && (t class.Equals && (t class.Reducing && (t class.Declares && (t class.Dots && (t class.Name && (t class.Number && (t class.Widest && (t class.Unknown && (t class.End))))))))))))))))))))))))))))) (both (t class.Fill) (t class.Shape && (t class.Loop && (t class.If && (t class.Let && (t class.Turn && (t class.Protocol && (t class.Call && (t class.Store && (t class.Element && (t class.OpenBracket && (t class.CloseBracket && (t class.OpenParenthesis && (t class.CloseParenthesis && (t class.OpenBrace && (t class.CloseBrace && (t class.Comma && (t class.Tilde && (t class.Plus && (t class.Minus && (t class.Star && (t class.Comparison && (t class.Equals && (t class.Reducing && (t class.Declares && (t class.Dots && (t class.Name && (t class.Number && (t class.Widest && (t class.Unknown && (t class.End)))))))))))))))))))))))))))))) (both (t class.OutOrTmp) (t class.Fill && (t class.Shape && (t class.Loop && (t class.If && (t class.Let && (t class.Turn && (t class.Protocol && (t class.Call && (t class.Store && (t class.Element && (t class.OpenBracket && (t class.CloseBracket && (t class.OpenParenthesis && (t class.CloseParenthesis && (t class.OpenBrace && (t class.CloseBrace && (t class.Comma && (t class.Tilde && (t class.Plus && (t class.Minus && (t class.Star && (t class.Comparison && (t class.Equals && (t class.Reducing && (t class.Declares && (t class.Dots && (t class.Name && (t class.Number && (t class.Widest && (t class.Unknown && (t class.End))))))))))))))))))))))))))))))) (both (t class.In) (t class.OutOrTmp && (t class.Fill && (t class.Shape && (t class.Loop && (t class.If && (t class.Let && (t class.Turn && (t class.Protocol && (t class.Call && (t class.Store && (t class.Element && (t class.OpenBracket && (t class.CloseBracket && (t class.OpenParenthesis && (t class.CloseParenthesis && (t class.OpenBrace && (t class.CloseBrace && (t class.Comma && (t class.Tilde && (t class.Plus && (t class.Minus && (t class.Star && (t class.Comparison && (t class.Equals && (t class.Reducing && (t class.Declares && (t class.Dots && (t class.Name && (t class.Number && (t class.Widest && (t class.Unknown && (t class.End)))))))))))))))))))))))))))))))) h).1).1).1).1).0
-at_each t h class.If = (both (t class.If) (t class.Let && (t class.Turn && (t class.Protocol && (t class.Call && (t class.Store && (t class.Element && (t class.OpenBracket && (t class.CloseBracket && (t class.OpenParenthesis && (t class.CloseParenthesis && (t class.OpenBrace && (t class.CloseBrace && (t class.Comma && (t class.Tilde && (t class.Plus && (t class.Minus && (t class.Star && (t class.Comparison && (t class.Equals && (t class.Reducing && (t class.Declares && (t class.Dots && (t class.Name && (t class.Number && (t class.Widest && (t class.Unknown && (t class.End))))))))))))))))))))))))))) (both (t class.Loop) (t class.If && (t class.Let && (t class.Turn && (t class.Protocol && (t class.Call && (t class.Store && (t class.Element && (t class.OpenBracket && (t class.CloseBracket && (t class.OpenParenthesis && (t class.CloseParenthesis && (t class.OpenBrace && (t class.CloseBrace && (t class.Comma && (t class.Tilde && (t class.Plus && (t class.Minus && (t class.Star && (t class.Comparison && (t class.Equals && (t class.Reducing && (t class.Declares && (t class.Dots && (t class.Name && (t class.Number && (t class.Widest && (t class.Unknown && (t class.End)))))))))))))))))))))))))))) (both (t class.Shape) (t class.Loop && (t class.If && (t class.Let && (t class.Turn && (t class.Protocol && (t class.Call && (t class.Store && (t class.Element && (t class.OpenBracket && (t class.CloseBracket && (t class.OpenParenthesis && (t class.CloseParenthesis && (t class.OpenBrace && (t class.CloseBrace && (t class.Comma && (t class.Tilde && (t class.Plus && (t class.Minus && (t class.Star && (t class.Comparison && (t class.Equals && (t class.Reducing && (t class.Declares && (t class.Dots && (t class.Name && (t class.Number && (t class.Widest && (t class.Unknown && (t class.End))))))))))))))))))))))))))))) (both (t class.Fill) (t class.Shape && (t class.Loop && (t class.If && (t class.Let && (t class.Turn && (t class.Protocol && (t class.Call && (t class.Store && (t class.Element && (t class.OpenBracket && (t class.CloseBracket && (t class.OpenParenthesis && (t class.CloseParenthesis && (t class.OpenBrace && (t class.CloseBrace && (t class.Comma && (t class.Tilde && (t class.Plus && (t class.Minus && (t class.Star && (t class.Comparison && (t class.Equals && (t class.Reducing && (t class.Declares && (t class.Dots && (t class.Name && (t class.Number && (t class.Widest && (t class.Unknown && (t class.End)))))))))))))))))))))))))))))) (both (t class.OutOrTmp) (t class.Fill && (t class.Shape && (t class.Loop && (t class.If && (t class.Let && (t class.Turn && (t class.Protocol && (t class.Call && (t class.Store && (t class.Element && (t class.OpenBracket && (t class.CloseBracket && (t class.OpenParenthesis && (t class.CloseParenthesis && (t class.OpenBrace && (t class.CloseBrace && (t class.Comma && (t class.Tilde && (t class.Plus && (t class.Minus && (t class.Star && (t class.Comparison && (t class.Equals && (t class.Reducing && (t class.Declares && (t class.Dots && (t class.Name && (t class.Number && (t class.Widest && (t class.Unknown && (t class.End))))))))))))))))))))))))))))))) (both (t class.In) (t class.OutOrTmp && (t class.Fill && (t class.Shape && (t class.Loop && (t class.If && (t class.Let && (t class.Turn && (t class.Protocol && (t class.Call && (t class.Store && (t class.Element && (t class.OpenBracket && (t class.CloseBracket && (t class.OpenParenthesis && (t class.CloseParenthesis && (t class.OpenBrace && (t class.CloseBrace && (t class.Comma && (t class.Tilde && (t class.Plus && (t class.Minus && (t class.Star && (t class.Comparison && (t class.Equals && (t class.Reducing && (t class.Declares && (t class.Dots && (t class.Name && (t class.Number && (t class.Widest && (t class.Unknown && (t class.End)))))))))))))))))))))))))))))))) h).1).1).1).1).1).0
-at_each t h class.Let = (both (t class.Let) (t class.Turn && (t class.Protocol && (t class.Call && (t class.Store && (t class.Element && (t class.OpenBracket && (t class.CloseBracket && (t class.OpenParenthesis && (t class.CloseParenthesis && (t class.OpenBrace && (t class.CloseBrace && (t class.Comma && (t class.Tilde && (t class.Plus && (t class.Minus && (t class.Star && (t class.Comparison && (t class.Equals && (t class.Reducing && (t class.Declares && (t class.Dots && (t class.Name && (t class.Number && (t class.Widest && (t class.Unknown && (t class.End)))))))))))))))))))))))))) (both (t class.If) (t class.Let && (t class.Turn && (t class.Protocol && (t class.Call && (t class.Store && (t class.Element && (t class.OpenBracket && (t class.CloseBracket && (t class.OpenParenthesis && (t class.CloseParenthesis && (t class.OpenBrace && (t class.CloseBrace && (t class.Comma && (t class.Tilde && (t class.Plus && (t class.Minus && (t class.Star && (t class.Comparison && (t class.Equals && (t class.Reducing && (t class.Declares && (t class.Dots && (t class.Name && (t class.Number && (t class.Widest && (t class.Unknown && (t class.End))))))))))))))))))))))))))) (both (t class.Loop) (t class.If && (t class.Let && (t class.Turn && (t class.Protocol && (t class.Call && (t class.Store && (t class.Element && (t class.OpenBracket && (t class.CloseBracket && (t class.OpenParenthesis && (t class.CloseParenthesis && (t class.OpenBrace && (t class.CloseBrace && (t class.Comma && (t class.Tilde && (t class.Plus && (t class.Minus && (t class.Star && (t class.Comparison && (t class.Equals && (t class.Reducing && (t class.Declares && (t class.Dots && (t class.Name && (t class.Number && (t class.Widest && (t class.Unknown && (t class.End)))))))))))))))))))))))))))) (both (t class.Shape) (t class.Loop && (t class.If && (t class.Let && (t class.Turn && (t class.Protocol && (t class.Call && (t class.Store && (t class.Element && (t class.OpenBracket && (t class.CloseBracket && (t class.OpenParenthesis && (t class.CloseParenthesis && (t class.OpenBrace && (t class.CloseBrace && (t class.Comma && (t class.Tilde && (t class.Plus && (t class.Minus && (t class.Star && (t class.Comparison && (t class.Equals && (t class.Reducing && (t class.Declares && (t class.Dots && (t class.Name && (t class.Number && (t class.Widest && (t class.Unknown && (t class.End))))))))))))))))))))))))))))) (both (t class.Fill) (t class.Shape && (t class.Loop && (t class.If && (t class.Let && (t class.Turn && (t class.Protocol && (t class.Call && (t class.Store && (t class.Element && (t class.OpenBracket && (t class.CloseBracket && (t class.OpenParenthesis && (t class.CloseParenthesis && (t class.OpenBrace && (t class.CloseBrace && (t class.Comma && (t class.Tilde && (t class.Plus && (t class.Minus && (t class.Star && (t class.Comparison && (t class.Equals && (t class.Reducing && (t class.Declares && (t class.Dots && (t class.Name && (t class.Number && (t class.Widest && (t class.Unknown && (t class.End)))))))))))))))))))))))))))))) (both (t class.OutOrTmp) (t class.Fill && (t class.Shape && (t class.Loop && (t class.If && (t class.Let && (t class.Turn && (t class.Protocol && (t class.Call && (t class.Store && (t class.Element && (t class.OpenBracket && (t class.CloseBracket && (t class.OpenParenthesis && (t class.CloseParenthesis && (t class.OpenBrace && (t class.CloseBrace && (t class.Comma && (t class.Tilde && (t class.Plus && (t class.Minus && (t class.Star && (t class.Comparison && (t class.Equals && (t class.Reducing && (t class.Declares && (t class.Dots && (t class.Name && (t class.Number && (t class.Widest && (t class.Unknown && (t class.End))))))))))))))))))))))))))))))) (both (t class.In) (t class.OutOrTmp && (t class.Fill && (t class.Shape && (t class.Loop && (t class.If && (t class.Let && (t class.Turn && (t class.Protocol && (t class.Call && (t class.Store && (t class.Element && (t class.OpenBracket && (t class.CloseBracket && (t class.OpenParenthesis && (t class.CloseParenthesis && (t class.OpenBrace && (t class.CloseBrace && (t class.Comma && (t class.Tilde && (t class.Plus && (t class.Minus && (t class.Star && (t class.Comparison && (t class.Equals && (t class.Reducing && (t class.Declares && (t class.Dots && (t class.Name && (t class.Number && (t class.Widest && (t class.Unknown && (t class.End)))))))))))))))))))))))))))))))) h).1).1).1).1).1).1).0
-at_each t h class.Turn = (both (t class.Turn) (t class.Protocol && (t class.Call && (t class.Store && (t class.Element && (t class.OpenBracket && (t class.CloseBracket && (t class.OpenParenthesis && (t class.CloseParenthesis && (t class.OpenBrace && (t class.CloseBrace && (t class.Comma && (t class.Tilde && (t class.Plus && (t class.Minus && (t class.Star && (t class.Comparison && (t class.Equals && (t class.Reducing && (t class.Declares && (t class.Dots && (t class.Name && (t class.Number && (t class.Widest && (t class.Unknown && (t class.End))))))))))))))))))))))))) (both (t class.Let) (t class.Turn && (t class.Protocol && (t class.Call && (t class.Store && (t class.Element && (t class.OpenBracket && (t class.CloseBracket && (t class.OpenParenthesis && (t class.CloseParenthesis && (t class.OpenBrace && (t class.CloseBrace && (t class.Comma && (t class.Tilde && (t class.Plus && (t class.Minus && (t class.Star && (t class.Comparison && (t class.Equals && (t class.Reducing && (t class.Declares && (t class.Dots && (t class.Name && (t class.Number && (t class.Widest && (t class.Unknown && (t class.End)))))))))))))))))))))))))) (both (t class.If) (t class.Let && (t class.Turn && (t class.Protocol && (t class.Call && (t class.Store && (t class.Element && (t class.OpenBracket && (t class.CloseBracket && (t class.OpenParenthesis && (t class.CloseParenthesis && (t class.OpenBrace && (t class.CloseBrace && (t class.Comma && (t class.Tilde && (t class.Plus && (t class.Minus && (t class.Star && (t class.Comparison && (t class.Equals && (t class.Reducing && (t class.Declares && (t class.Dots && (t class.Name && (t class.Number && (t class.Widest && (t class.Unknown && (t class.End))))))))))))))))))))))))))) (both (t class.Loop) (t class.If && (t class.Let && (t class.Turn && (t class.Protocol && (t class.Call && (t class.Store && (t class.Element && (t class.OpenBracket && (t class.CloseBracket && (t class.OpenParenthesis && (t class.CloseParenthesis && (t class.OpenBrace && (t class.CloseBrace && (t class.Comma && (t class.Tilde && (t class.Plus && (t class.Minus && (t class.Star && (t class.Comparison && (t class.Equals && (t class.Reducing && (t class.Declares && (t class.Dots && (t class.Name && (t class.Number && (t class.Widest && (t class.Unknown && (t class.End)))))))))))))))))))))))))))) (both (t class.Shape) (t class.Loop && (t class.If && (t class.Let && (t class.Turn && (t class.Protocol && (t class.Call && (t class.Store && (t class.Element && (t class.OpenBracket && (t class.CloseBracket && (t class.OpenParenthesis && (t class.CloseParenthesis && (t class.OpenBrace && (t class.CloseBrace && (t class.Comma && (t class.Tilde && (t class.Plus && (t class.Minus && (t class.Star && (t class.Comparison && (t class.Equals && (t class.Reducing && (t class.Declares && (t class.Dots && (t class.Name && (t class.Number && (t class.Widest && (t class.Unknown && (t class.End))))))))))))))))))))))))))))) (both (t class.Fill) (t class.Shape && (t class.Loop && (t class.If && (t class.Let && (t class.Turn && (t class.Protocol && (t class.Call && (t class.Store && (t class.Element && (t class.OpenBracket && (t class.CloseBracket && (t class.OpenParenthesis && (t class.CloseParenthesis && (t class.OpenBrace && (t class.CloseBrace && (t class.Comma && (t class.Tilde && (t class.Plus && (t class.Minus && (t class.Star && (t class.Comparison && (t class.Equals && (t class.Reducing && (t class.Declares && (t class.Dots && (t class.Name && (t class.Number && (t class.Widest && (t class.Unknown && (t class.End)))))))))))))))))))))))))))))) (both (t class.OutOrTmp) (t class.Fill && (t class.Shape && (t class.Loop && (t class.If && (t class.Let && (t class.Turn && (t class.Protocol && (t class.Call && (t class.Store && (t class.Element && (t class.OpenBracket && (t class.CloseBracket && (t class.OpenParenthesis && (t class.CloseParenthesis && (t class.OpenBrace && (t class.CloseBrace && (t class.Comma && (t class.Tilde && (t class.Plus && (t class.Minus && (t class.Star && (t class.Comparison && (t class.Equals && (t class.Reducing && (t class.Declares && (t class.Dots && (t class.Name && (t class.Number && (t class.Widest && (t class.Unknown && (t class.End))))))))))))))))))))))))))))))) (both (t class.In) (t class.OutOrTmp && (t class.Fill && (t class.Shape && (t class.Loop && (t class.If && (t class.Let && (t class.Turn && (t class.Protocol && (t class.Call && (t class.Store && (t class.Element && (t class.OpenBracket && (t class.CloseBracket && (t class.OpenParenthesis && (t class.CloseParenthesis && (t class.OpenBrace && (t class.CloseBrace && (t class.Comma && (t class.Tilde && (t class.Plus && (t class.Minus && (t class.Star && (t class.Comparison && (t class.Equals && (t class.Reducing && (t class.Declares && (t class.Dots && (t class.Name && (t class.Number && (t class.Widest && (t class.Unknown && (t class.End)))))))))))))))))))))))))))))))) h).1).1).1).1).1).1).1).0
-at_each t h class.Protocol = (both (t class.Protocol) (t class.Call && (t class.Store && (t class.Element && (t class.OpenBracket && (t class.CloseBracket && (t class.OpenParenthesis && (t class.CloseParenthesis && (t class.OpenBrace && (t class.CloseBrace && (t class.Comma && (t class.Tilde && (t class.Plus && (t class.Minus && (t class.Star && (t class.Comparison && (t class.Equals && (t class.Reducing && (t class.Declares && (t class.Dots && (t class.Name && (t class.Number && (t class.Widest && (t class.Unknown && (t class.End)))))))))))))))))))))))) (both (t class.Turn) (t class.Protocol && (t class.Call && (t class.Store && (t class.Element && (t class.OpenBracket && (t class.CloseBracket && (t class.OpenParenthesis && (t class.CloseParenthesis && (t class.OpenBrace && (t class.CloseBrace && (t class.Comma && (t class.Tilde && (t class.Plus && (t class.Minus && (t class.Star && (t class.Comparison && (t class.Equals && (t class.Reducing && (t class.Declares && (t class.Dots && (t class.Name && (t class.Number && (t class.Widest && (t class.Unknown && (t class.End))))))))))))))))))))))))) (both (t class.Let) (t class.Turn && (t class.Protocol && (t class.Call && (t class.Store && (t class.Element && (t class.OpenBracket && (t class.CloseBracket && (t class.OpenParenthesis && (t class.CloseParenthesis && (t class.OpenBrace && (t class.CloseBrace && (t class.Comma && (t class.Tilde && (t class.Plus && (t class.Minus && (t class.Star && (t class.Comparison && (t class.Equals && (t class.Reducing && (t class.Declares && (t class.Dots && (t class.Name && (t class.Number && (t class.Widest && (t class.Unknown && (t class.End)))))))))))))))))))))))))) (both (t class.If) (t class.Let && (t class.Turn && (t class.Protocol && (t class.Call && (t class.Store && (t class.Element && (t class.OpenBracket && (t class.CloseBracket && (t class.OpenParenthesis && (t class.CloseParenthesis && (t class.OpenBrace && (t class.CloseBrace && (t class.Comma && (t class.Tilde && (t class.Plus && (t class.Minus && (t class.Star && (t class.Comparison && (t class.Equals && (t class.Reducing && (t class.Declares && (t class.Dots && (t class.Name && (t class.Number && (t class.Widest && (t class.Unknown && (t class.End))))))))))))))))))))))))))) (both (t class.Loop) (t class.If && (t class.Let && (t class.Turn && (t class.Protocol && (t class.Call && (t class.Store && (t class.Element && (t class.OpenBracket && (t class.CloseBracket && (t class.OpenParenthesis && (t class.CloseParenthesis && (t class.OpenBrace && (t class.CloseBrace && (t class.Comma && (t class.Tilde && (t class.Plus && (t class.Minus && (t class.Star && (t class.Comparison && (t class.Equals && (t class.Reducing && (t class.Declares && (t class.Dots && (t class.Name && (t class.Number && (t class.Widest && (t class.Unknown && (t class.End)))))))))))))))))))))))))))) (both (t class.Shape) (t class.Loop && (t class.If && (t class.Let && (t class.Turn && (t class.Protocol && (t class.Call && (t class.Store && (t class.Element && (t class.OpenBracket && (t class.CloseBracket && (t class.OpenParenthesis && (t class.CloseParenthesis && (t class.OpenBrace && (t class.CloseBrace && (t class.Comma && (t class.Tilde && (t class.Plus && (t class.Minus && (t class.Star && (t class.Comparison && (t class.Equals && (t class.Reducing && (t class.Declares && (t class.Dots && (t class.Name && (t class.Number && (t class.Widest && (t class.Unknown && (t class.End))))))))))))))))))))))))))))) (both (t class.Fill) (t class.Shape && (t class.Loop && (t class.If && (t class.Let && (t class.Turn && (t class.Protocol && (t class.Call && (t class.Store && (t class.Element && (t class.OpenBracket && (t class.CloseBracket && (t class.OpenParenthesis && (t class.CloseParenthesis && (t class.OpenBrace && (t class.CloseBrace && (t class.Comma && (t class.Tilde && (t class.Plus && (t class.Minus && (t class.Star && (t class.Comparison && (t class.Equals && (t class.Reducing && (t class.Declares && (t class.Dots && (t class.Name && (t class.Number && (t class.Widest && (t class.Unknown && (t class.End)))))))))))))))))))))))))))))) (both (t class.OutOrTmp) (t class.Fill && (t class.Shape && (t class.Loop && (t class.If && (t class.Let && (t class.Turn && (t class.Protocol && (t class.Call && (t class.Store && (t class.Element && (t class.OpenBracket && (t class.CloseBracket && (t class.OpenParenthesis && (t class.CloseParenthesis && (t class.OpenBrace && (t class.CloseBrace && (t class.Comma && (t class.Tilde && (t class.Plus && (t class.Minus && (t class.Star && (t class.Comparison && (t class.Equals && (t class.Reducing && (t class.Declares && (t class.Dots && (t class.Name && (t class.Number && (t class.Widest && (t class.Unknown && (t class.End))))))))))))))))))))))))))))))) (both (t class.In) (t class.OutOrTmp && (t class.Fill && (t class.Shape && (t class.Loop && (t class.If && (t class.Let && (t class.Turn && (t class.Protocol && (t class.Call && (t class.Store && (t class.Element && (t class.OpenBracket && (t class.CloseBracket && (t class.OpenParenthesis && (t class.CloseParenthesis && (t class.OpenBrace && (t class.CloseBrace && (t class.Comma && (t class.Tilde && (t class.Plus && (t class.Minus && (t class.Star && (t class.Comparison && (t class.Equals && (t class.Reducing && (t class.Declares && (t class.Dots && (t class.Name && (t class.Number && (t class.Widest && (t class.Unknown && (t class.End)))))))))))))))))))))))))))))))) h).1).1).1).1).1).1).1).1).0
-at_each t h class.Call = (both (t class.Call) (t class.Store && (t class.Element && (t class.OpenBracket && (t class.CloseBracket && (t class.OpenParenthesis && (t class.CloseParenthesis && (t class.OpenBrace && (t class.CloseBrace && (t class.Comma && (t class.Tilde && (t class.Plus && (t class.Minus && (t class.Star && (t class.Comparison && (t class.Equals && (t class.Reducing && (t class.Declares && (t class.Dots && (t class.Name && (t class.Number && (t class.Widest && (t class.Unknown && (t class.End))))))))))))))))))))))) (both (t class.Protocol) (t class.Call && (t class.Store && (t class.Element && (t class.OpenBracket && (t class.CloseBracket && (t class.OpenParenthesis && (t class.CloseParenthesis && (t class.OpenBrace && (t class.CloseBrace && (t class.Comma && (t class.Tilde && (t class.Plus && (t class.Minus && (t class.Star && (t class.Comparison && (t class.Equals && (t class.Reducing && (t class.Declares && (t class.Dots && (t class.Name && (t class.Number && (t class.Widest && (t class.Unknown && (t class.End)))))))))))))))))))))))) (both (t class.Turn) (t class.Protocol && (t class.Call && (t class.Store && (t class.Element && (t class.OpenBracket && (t class.CloseBracket && (t class.OpenParenthesis && (t class.CloseParenthesis && (t class.OpenBrace && (t class.CloseBrace && (t class.Comma && (t class.Tilde && (t class.Plus && (t class.Minus && (t class.Star && (t class.Comparison && (t class.Equals && (t class.Reducing && (t class.Declares && (t class.Dots && (t class.Name && (t class.Number && (t class.Widest && (t class.Unknown && (t class.End))))))))))))))))))))))))) (both (t class.Let) (t class.Turn && (t class.Protocol && (t class.Call && (t class.Store && (t class.Element && (t class.OpenBracket && (t class.CloseBracket && (t class.OpenParenthesis && (t class.CloseParenthesis && (t class.OpenBrace && (t class.CloseBrace && (t class.Comma && (t class.Tilde && (t class.Plus && (t class.Minus && (t class.Star && (t class.Comparison && (t class.Equals && (t class.Reducing && (t class.Declares && (t class.Dots && (t class.Name && (t class.Number && (t class.Widest && (t class.Unknown && (t class.End)))))))))))))))))))))))))) (both (t class.If) (t class.Let && (t class.Turn && (t class.Protocol && (t class.Call && (t class.Store && (t class.Element && (t class.OpenBracket && (t class.CloseBracket && (t class.OpenParenthesis && (t class.CloseParenthesis && (t class.OpenBrace && (t class.CloseBrace && (t class.Comma && (t class.Tilde && (t class.Plus && (t class.Minus && (t class.Star && (t class.Comparison && (t class.Equals && (t class.Reducing && (t class.Declares && (t class.Dots && (t class.Name && (t class.Number && (t class.Widest && (t class.Unknown && (t class.End))))))))))))))))))))))))))) (both (t class.Loop) (t class.If && (t class.Let && (t class.Turn && (t class.Protocol && (t class.Call && (t class.Store && (t class.Element && (t class.OpenBracket && (t class.CloseBracket && (t class.OpenParenthesis && (t class.CloseParenthesis && (t class.OpenBrace && (t class.CloseBrace && (t class.Comma && (t class.Tilde && (t class.Plus && (t class.Minus && (t class.Star && (t class.Comparison && (t class.Equals && (t class.Reducing && (t class.Declares && (t class.Dots && (t class.Name && (t class.Number && (t class.Widest && (t class.Unknown && (t class.End)))))))))))))))))))))))))))) (both (t class.Shape) (t class.Loop && (t class.If && (t class.Let && (t class.Turn && (t class.Protocol && (t class.Call && (t class.Store && (t class.Element && (t class.OpenBracket && (t class.CloseBracket && (t class.OpenParenthesis && (t class.CloseParenthesis && (t class.OpenBrace && (t class.CloseBrace && (t class.Comma && (t class.Tilde && (t class.Plus && (t class.Minus && (t class.Star && (t class.Comparison && (t class.Equals && (t class.Reducing && (t class.Declares && (t class.Dots && (t class.Name && (t class.Number && (t class.Widest && (t class.Unknown && (t class.End))))))))))))))))))))))))))))) (both (t class.Fill) (t class.Shape && (t class.Loop && (t class.If && (t class.Let && (t class.Turn && (t class.Protocol && (t class.Call && (t class.Store && (t class.Element && (t class.OpenBracket && (t class.CloseBracket && (t class.OpenParenthesis && (t class.CloseParenthesis && (t class.OpenBrace && (t class.CloseBrace && (t class.Comma && (t class.Tilde && (t class.Plus && (t class.Minus && (t class.Star && (t class.Comparison && (t class.Equals && (t class.Reducing && (t class.Declares && (t class.Dots && (t class.Name && (t class.Number && (t class.Widest && (t class.Unknown && (t class.End)))))))))))))))))))))))))))))) (both (t class.OutOrTmp) (t class.Fill && (t class.Shape && (t class.Loop && (t class.If && (t class.Let && (t class.Turn && (t class.Protocol && (t class.Call && (t class.Store && (t class.Element && (t class.OpenBracket && (t class.CloseBracket && (t class.OpenParenthesis && (t class.CloseParenthesis && (t class.OpenBrace && (t class.CloseBrace && (t class.Comma && (t class.Tilde && (t class.Plus && (t class.Minus && (t class.Star && (t class.Comparison && (t class.Equals && (t class.Reducing && (t class.Declares && (t class.Dots && (t class.Name && (t class.Number && (t class.Widest && (t class.Unknown && (t class.End))))))))))))))))))))))))))))))) (both (t class.In) (t class.OutOrTmp && (t class.Fill && (t class.Shape && (t class.Loop && (t class.If && (t class.Let && (t class.Turn && (t class.Protocol && (t class.Call && (t class.Store && (t class.Element && (t class.OpenBracket && (t class.CloseBracket && (t class.OpenParenthesis && (t class.CloseParenthesis && (t class.OpenBrace && (t class.CloseBrace && (t class.Comma && (t class.Tilde && (t class.Plus && (t class.Minus && (t class.Star && (t class.Comparison && (t class.Equals && (t class.Reducing && (t class.Declares && (t class.Dots && (t class.Name && (t class.Number && (t class.Widest && (t class.Unknown && (t class.End)))))))))))))))))))))))))))))))) h).1).1).1).1).1).1).1).1).1).0
-at_each t h class.Store = (both (t class.Store) (t class.Element && (t class.OpenBracket && (t class.CloseBracket && (t class.OpenParenthesis && (t class.CloseParenthesis && (t class.OpenBrace && (t class.CloseBrace && (t class.Comma && (t class.Tilde && (t class.Plus && (t class.Minus && (t class.Star && (t class.Comparison && (t class.Equals && (t class.Reducing && (t class.Declares && (t class.Dots && (t class.Name && (t class.Number && (t class.Widest && (t class.Unknown && (t class.End)))))))))))))))))))))) (both (t class.Call) (t class.Store && (t class.Element && (t class.OpenBracket && (t class.CloseBracket && (t class.OpenParenthesis && (t class.CloseParenthesis && (t class.OpenBrace && (t class.CloseBrace && (t class.Comma && (t class.Tilde && (t class.Plus && (t class.Minus && (t class.Star && (t class.Comparison && (t class.Equals && (t class.Reducing && (t class.Declares && (t class.Dots && (t class.Name && (t class.Number && (t class.Widest && (t class.Unknown && (t class.End))))))))))))))))))))))) (both (t class.Protocol) (t class.Call && (t class.Store && (t class.Element && (t class.OpenBracket && (t class.CloseBracket && (t class.OpenParenthesis && (t class.CloseParenthesis && (t class.OpenBrace && (t class.CloseBrace && (t class.Comma && (t class.Tilde && (t class.Plus && (t class.Minus && (t class.Star && (t class.Comparison && (t class.Equals && (t class.Reducing && (t class.Declares && (t class.Dots && (t class.Name && (t class.Number && (t class.Widest && (t class.Unknown && (t class.End)))))))))))))))))))))))) (both (t class.Turn) (t class.Protocol && (t class.Call && (t class.Store && (t class.Element && (t class.OpenBracket && (t class.CloseBracket && (t class.OpenParenthesis && (t class.CloseParenthesis && (t class.OpenBrace && (t class.CloseBrace && (t class.Comma && (t class.Tilde && (t class.Plus && (t class.Minus && (t class.Star && (t class.Comparison && (t class.Equals && (t class.Reducing && (t class.Declares && (t class.Dots && (t class.Name && (t class.Number && (t class.Widest && (t class.Unknown && (t class.End))))))))))))))))))))))))) (both (t class.Let) (t class.Turn && (t class.Protocol && (t class.Call && (t class.Store && (t class.Element && (t class.OpenBracket && (t class.CloseBracket && (t class.OpenParenthesis && (t class.CloseParenthesis && (t class.OpenBrace && (t class.CloseBrace && (t class.Comma && (t class.Tilde && (t class.Plus && (t class.Minus && (t class.Star && (t class.Comparison && (t class.Equals && (t class.Reducing && (t class.Declares && (t class.Dots && (t class.Name && (t class.Number && (t class.Widest && (t class.Unknown && (t class.End)))))))))))))))))))))))))) (both (t class.If) (t class.Let && (t class.Turn && (t class.Protocol && (t class.Call && (t class.Store && (t class.Element && (t class.OpenBracket && (t class.CloseBracket && (t class.OpenParenthesis && (t class.CloseParenthesis && (t class.OpenBrace && (t class.CloseBrace && (t class.Comma && (t class.Tilde && (t class.Plus && (t class.Minus && (t class.Star && (t class.Comparison && (t class.Equals && (t class.Reducing && (t class.Declares && (t class.Dots && (t class.Name && (t class.Number && (t class.Widest && (t class.Unknown && (t class.End))))))))))))))))))))))))))) (both (t class.Loop) (t class.If && (t class.Let && (t class.Turn && (t class.Protocol && (t class.Call && (t class.Store && (t class.Element && (t class.OpenBracket && (t class.CloseBracket && (t class.OpenParenthesis && (t class.CloseParenthesis && (t class.OpenBrace && (t class.CloseBrace && (t class.Comma && (t class.Tilde && (t class.Plus && (t class.Minus && (t class.Star && (t class.Comparison && (t class.Equals && (t class.Reducing && (t class.Declares && (t class.Dots && (t class.Name && (t class.Number && (t class.Widest && (t class.Unknown && (t class.End)))))))))))))))))))))))))))) (both (t class.Shape) (t class.Loop && (t class.If && (t class.Let && (t class.Turn && (t class.Protocol && (t class.Call && (t class.Store && (t class.Element && (t class.OpenBracket && (t class.CloseBracket && (t class.OpenParenthesis && (t class.CloseParenthesis && (t class.OpenBrace && (t class.CloseBrace && (t class.Comma && (t class.Tilde && (t class.Plus && (t class.Minus && (t class.Star && (t class.Comparison && (t class.Equals && (t class.Reducing && (t class.Declares && (t class.Dots && (t class.Name && (t class.Number && (t class.Widest && (t class.Unknown && (t class.End))))))))))))))))))))))))))))) (both (t class.Fill) (t class.Shape && (t class.Loop && (t class.If && (t class.Let && (t class.Turn && (t class.Protocol && (t class.Call && (t class.Store && (t class.Element && (t class.OpenBracket && (t class.CloseBracket && (t class.OpenParenthesis && (t class.CloseParenthesis && (t class.OpenBrace && (t class.CloseBrace && (t class.Comma && (t class.Tilde && (t class.Plus && (t class.Minus && (t class.Star && (t class.Comparison && (t class.Equals && (t class.Reducing && (t class.Declares && (t class.Dots && (t class.Name && (t class.Number && (t class.Widest && (t class.Unknown && (t class.End)))))))))))))))))))))))))))))) (both (t class.OutOrTmp) (t class.Fill && (t class.Shape && (t class.Loop && (t class.If && (t class.Let && (t class.Turn && (t class.Protocol && (t class.Call && (t class.Store && (t class.Element && (t class.OpenBracket && (t class.CloseBracket && (t class.OpenParenthesis && (t class.CloseParenthesis && (t class.OpenBrace && (t class.CloseBrace && (t class.Comma && (t class.Tilde && (t class.Plus && (t class.Minus && (t class.Star && (t class.Comparison && (t class.Equals && (t class.Reducing && (t class.Declares && (t class.Dots && (t class.Name && (t class.Number && (t class.Widest && (t class.Unknown && (t class.End))))))))))))))))))))))))))))))) (both (t class.In) (t class.OutOrTmp && (t class.Fill && (t class.Shape && (t class.Loop && (t class.If && (t class.Let && (t class.Turn && (t class.Protocol && (t class.Call && (t class.Store && (t class.Element && (t class.OpenBracket && (t class.CloseBracket && (t class.OpenParenthesis && (t class.CloseParenthesis && (t class.OpenBrace && (t class.CloseBrace && (t class.Comma && (t class.Tilde && (t class.Plus && (t class.Minus && (t class.Star && (t class.Comparison && (t class.Equals && (t class.Reducing && (t class.Declares && (t class.Dots && (t class.Name && (t class.Number && (t class.Widest && (t class.Unknown && (t class.End)))))))))))))))))))))))))))))))) h).1).1).1).1).1).1).1).1).1).1).0
-at_each t h class.Element = (both (t class.Element) (t class.OpenBracket && (t class.CloseBracket && (t class.OpenParenthesis && (t class.CloseParenthesis && (t class.OpenBrace && (t class.CloseBrace && (t class.Comma && (t class.Tilde && (t class.Plus && (t class.Minus && (t class.Star && (t class.Comparison && (t class.Equals && (t class.Reducing && (t class.Declares && (t class.Dots && (t class.Name && (t class.Number && (t class.Widest && (t class.Unknown && (t class.End))))))))))))))))))))) (both (t class.Store) (t class.Element && (t class.OpenBracket && (t class.CloseBracket && (t class.OpenParenthesis && (t class.CloseParenthesis && (t class.OpenBrace && (t class.CloseBrace && (t class.Comma && (t class.Tilde && (t class.Plus && (t class.Minus && (t class.Star && (t class.Comparison && (t class.Equals && (t class.Reducing && (t class.Declares && (t class.Dots && (t class.Name && (t class.Number && (t class.Widest && (t class.Unknown && (t class.End)))))))))))))))))))))) (both (t class.Call) (t class.Store && (t class.Element && (t class.OpenBracket && (t class.CloseBracket && (t class.OpenParenthesis && (t class.CloseParenthesis && (t class.OpenBrace && (t class.CloseBrace && (t class.Comma && (t class.Tilde && (t class.Plus && (t class.Minus && (t class.Star && (t class.Comparison && (t class.Equals && (t class.Reducing && (t class.Declares && (t class.Dots && (t class.Name && (t class.Number && (t class.Widest && (t class.Unknown && (t class.End))))))))))))))))))))))) (both (t class.Protocol) (t class.Call && (t class.Store && (t class.Element && (t class.OpenBracket && (t class.CloseBracket && (t class.OpenParenthesis && (t class.CloseParenthesis && (t class.OpenBrace && (t class.CloseBrace && (t class.Comma && (t class.Tilde && (t class.Plus && (t class.Minus && (t class.Star && (t class.Comparison && (t class.Equals && (t class.Reducing && (t class.Declares && (t class.Dots && (t class.Name && (t class.Number && (t class.Widest && (t class.Unknown && (t class.End)))))))))))))))))))))))) (both (t class.Turn) (t class.Protocol && (t class.Call && (t class.Store && (t class.Element && (t class.OpenBracket && (t class.CloseBracket && (t class.OpenParenthesis && (t class.CloseParenthesis && (t class.OpenBrace && (t class.CloseBrace && (t class.Comma && (t class.Tilde && (t class.Plus && (t class.Minus && (t class.Star && (t class.Comparison && (t class.Equals && (t class.Reducing && (t class.Declares && (t class.Dots && (t class.Name && (t class.Number && (t class.Widest && (t class.Unknown && (t class.End))))))))))))))))))))))))) (both (t class.Let) (t class.Turn && (t class.Protocol && (t class.Call && (t class.Store && (t class.Element && (t class.OpenBracket && (t class.CloseBracket && (t class.OpenParenthesis && (t class.CloseParenthesis && (t class.OpenBrace && (t class.CloseBrace && (t class.Comma && (t class.Tilde && (t class.Plus && (t class.Minus && (t class.Star && (t class.Comparison && (t class.Equals && (t class.Reducing && (t class.Declares && (t class.Dots && (t class.Name && (t class.Number && (t class.Widest && (t class.Unknown && (t class.End)))))))))))))))))))))))))) (both (t class.If) (t class.Let && (t class.Turn && (t class.Protocol && (t class.Call && (t class.Store && (t class.Element && (t class.OpenBracket && (t class.CloseBracket && (t class.OpenParenthesis && (t class.CloseParenthesis && (t class.OpenBrace && (t class.CloseBrace && (t class.Comma && (t class.Tilde && (t class.Plus && (t class.Minus && (t class.Star && (t class.Comparison && (t class.Equals && (t class.Reducing && (t class.Declares && (t class.Dots && (t class.Name && (t class.Number && (t class.Widest && (t class.Unknown && (t class.End))))))))))))))))))))))))))) (both (t class.Loop) (t class.If && (t class.Let && (t class.Turn && (t class.Protocol && (t class.Call && (t class.Store && (t class.Element && (t class.OpenBracket && (t class.CloseBracket && (t class.OpenParenthesis && (t class.CloseParenthesis && (t class.OpenBrace && (t class.CloseBrace && (t class.Comma && (t class.Tilde && (t class.Plus && (t class.Minus && (t class.Star && (t class.Comparison && (t class.Equals && (t class.Reducing && (t class.Declares && (t class.Dots && (t class.Name && (t class.Number && (t class.Widest && (t class.Unknown && (t class.End)))))))))))))))))))))))))))) (both (t class.Shape) (t class.Loop && (t class.If && (t class.Let && (t class.Turn && (t class.Protocol && (t class.Call && (t class.Store && (t class.Element && (t class.OpenBracket && (t class.CloseBracket && (t class.OpenParenthesis && (t class.CloseParenthesis && (t class.OpenBrace && (t class.CloseBrace && (t class.Comma && (t class.Tilde && (t class.Plus && (t class.Minus && (t class.Star && (t class.Comparison && (t class.Equals && (t class.Reducing && (t class.Declares && (t class.Dots && (t class.Name && (t class.Number && (t class.Widest && (t class.Unknown && (t class.End))))))))))))))))))))))))))))) (both (t class.Fill) (t class.Shape && (t class.Loop && (t class.If && (t class.Let && (t class.Turn && (t class.Protocol && (t class.Call && (t class.Store && (t class.Element && (t class.OpenBracket && (t class.CloseBracket && (t class.OpenParenthesis && (t class.CloseParenthesis && (t class.OpenBrace && (t class.CloseBrace && (t class.Comma && (t class.Tilde && (t class.Plus && (t class.Minus && (t class.Star && (t class.Comparison && (t class.Equals && (t class.Reducing && (t class.Declares && (t class.Dots && (t class.Name && (t class.Number && (t class.Widest && (t class.Unknown && (t class.End)))))))))))))))))))))))))))))) (both (t class.OutOrTmp) (t class.Fill && (t class.Shape && (t class.Loop && (t class.If && (t class.Let && (t class.Turn && (t class.Protocol && (t class.Call && (t class.Store && (t class.Element && (t class.OpenBracket && (t class.CloseBracket && (t class.OpenParenthesis && (t class.CloseParenthesis && (t class.OpenBrace && (t class.CloseBrace && (t class.Comma && (t class.Tilde && (t class.Plus && (t class.Minus && (t class.Star && (t class.Comparison && (t class.Equals && (t class.Reducing && (t class.Declares && (t class.Dots && (t class.Name && (t class.Number && (t class.Widest && (t class.Unknown && (t class.End))))))))))))))))))))))))))))))) (both (t class.In) (t class.OutOrTmp && (t class.Fill && (t class.Shape && (t class.Loop && (t class.If && (t class.Let && (t class.Turn && (t class.Protocol && (t class.Call && (t class.Store && (t class.Element && (t class.OpenBracket && (t class.CloseBracket && (t class.OpenParenthesis && (t class.CloseParenthesis && (t class.OpenBrace && (t class.CloseBrace && (t class.Comma && (t class.Tilde && (t class.Plus && (t class.Minus && (t class.Star && (t class.Comparison && (t class.Equals && (t class.Reducing && (t class.Declares && (t class.Dots && (t class.Name && (t class.Number && (t class.Widest && (t class.Unknown && (t class.End)))))))))))))))))))))))))))))))) h).1).1).1).1).1).1).1).1).1).1).1).0
-at_each t h class.OpenBracket = (both (t class.OpenBracket) (t class.CloseBracket && (t class.OpenParenthesis && (t class.CloseParenthesis && (t class.OpenBrace && (t class.CloseBrace && (t class.Comma && (t class.Tilde && (t class.Plus && (t class.Minus && (t class.Star && (t class.Comparison && (t class.Equals && (t class.Reducing && (t class.Declares && (t class.Dots && (t class.Name && (t class.Number && (t class.Widest && (t class.Unknown && (t class.End)))))))))))))))))))) (both (t class.Element) (t class.OpenBracket && (t class.CloseBracket && (t class.OpenParenthesis && (t class.CloseParenthesis && (t class.OpenBrace && (t class.CloseBrace && (t class.Comma && (t class.Tilde && (t class.Plus && (t class.Minus && (t class.Star && (t class.Comparison && (t class.Equals && (t class.Reducing && (t class.Declares && (t class.Dots && (t class.Name && (t class.Number && (t class.Widest && (t class.Unknown && (t class.End))))))))))))))))))))) (both (t class.Store) (t class.Element && (t class.OpenBracket && (t class.CloseBracket && (t class.OpenParenthesis && (t class.CloseParenthesis && (t class.OpenBrace && (t class.CloseBrace && (t class.Comma && (t class.Tilde && (t class.Plus && (t class.Minus && (t class.Star && (t class.Comparison && (t class.Equals && (t class.Reducing && (t class.Declares && (t class.Dots && (t class.Name && (t class.Number && (t class.Widest && (t class.Unknown && (t class.End)))))))))))))))))))))) (both (t class.Call) (t class.Store && (t class.Element && (t class.OpenBracket && (t class.CloseBracket && (t class.OpenParenthesis && (t class.CloseParenthesis && (t class.OpenBrace && (t class.CloseBrace && (t class.Comma && (t class.Tilde && (t class.Plus && (t class.Minus && (t class.Star && (t class.Comparison && (t class.Equals && (t class.Reducing && (t class.Declares && (t class.Dots && (t class.Name && (t class.Number && (t class.Widest && (t class.Unknown && (t class.End))))))))))))))))))))))) (both (t class.Protocol) (t class.Call && (t class.Store && (t class.Element && (t class.OpenBracket && (t class.CloseBracket && (t class.OpenParenthesis && (t class.CloseParenthesis && (t class.OpenBrace && (t class.CloseBrace && (t class.Comma && (t class.Tilde && (t class.Plus && (t class.Minus && (t class.Star && (t class.Comparison && (t class.Equals && (t class.Reducing && (t class.Declares && (t class.Dots && (t class.Name && (t class.Number && (t class.Widest && (t class.Unknown && (t class.End)))))))))))))))))))))))) (both (t class.Turn) (t class.Protocol && (t class.Call && (t class.Store && (t class.Element && (t class.OpenBracket && (t class.CloseBracket && (t class.OpenParenthesis && (t class.CloseParenthesis && (t class.OpenBrace && (t class.CloseBrace && (t class.Comma && (t class.Tilde && (t class.Plus && (t class.Minus && (t class.Star && (t class.Comparison && (t class.Equals && (t class.Reducing && (t class.Declares && (t class.Dots && (t class.Name && (t class.Number && (t class.Widest && (t class.Unknown && (t class.End))))))))))))))))))))))))) (both (t class.Let) (t class.Turn && (t class.Protocol && (t class.Call && (t class.Store && (t class.Element && (t class.OpenBracket && (t class.CloseBracket && (t class.OpenParenthesis && (t class.CloseParenthesis && (t class.OpenBrace && (t class.CloseBrace && (t class.Comma && (t class.Tilde && (t class.Plus && (t class.Minus && (t class.Star && (t class.Comparison && (t class.Equals && (t class.Reducing && (t class.Declares && (t class.Dots && (t class.Name && (t class.Number && (t class.Widest && (t class.Unknown && (t class.End)))))))))))))))))))))))))) (both (t class.If) (t class.Let && (t class.Turn && (t class.Protocol && (t class.Call && (t class.Store && (t class.Element && (t class.OpenBracket && (t class.CloseBracket && (t class.OpenParenthesis && (t class.CloseParenthesis && (t class.OpenBrace && (t class.CloseBrace && (t class.Comma && (t class.Tilde && (t class.Plus && (t class.Minus && (t class.Star && (t class.Comparison && (t class.Equals && (t class.Reducing && (t class.Declares && (t class.Dots && (t class.Name && (t class.Number && (t class.Widest && (t class.Unknown && (t class.End))))))))))))))))))))))))))) (both (t class.Loop) (t class.If && (t class.Let && (t class.Turn && (t class.Protocol && (t class.Call && (t class.Store && (t class.Element && (t class.OpenBracket && (t class.CloseBracket && (t class.OpenParenthesis && (t class.CloseParenthesis && (t class.OpenBrace && (t class.CloseBrace && (t class.Comma && (t class.Tilde && (t class.Plus && (t class.Minus && (t class.Star && (t class.Comparison && (t class.Equals && (t class.Reducing && (t class.Declares && (t class.Dots && (t class.Name && (t class.Number && (t class.Widest && (t class.Unknown && (t class.End)))))))))))))))))))))))))))) (both (t class.Shape) (t class.Loop && (t class.If && (t class.Let && (t class.Turn && (t class.Protocol && (t class.Call && (t class.Store && (t class.Element && (t class.OpenBracket && (t class.CloseBracket && (t class.OpenParenthesis && (t class.CloseParenthesis && (t class.OpenBrace && (t class.CloseBrace && (t class.Comma && (t class.Tilde && (t class.Plus && (t class.Minus && (t class.Star && (t class.Comparison && (t class.Equals && (t class.Reducing && (t class.Declares && (t class.Dots && (t class.Name && (t class.Number && (t class.Widest && (t class.Unknown && (t class.End))))))))))))))))))))))))))))) (both (t class.Fill) (t class.Shape && (t class.Loop && (t class.If && (t class.Let && (t class.Turn && (t class.Protocol && (t class.Call && (t class.Store && (t class.Element && (t class.OpenBracket && (t class.CloseBracket && (t class.OpenParenthesis && (t class.CloseParenthesis && (t class.OpenBrace && (t class.CloseBrace && (t class.Comma && (t class.Tilde && (t class.Plus && (t class.Minus && (t class.Star && (t class.Comparison && (t class.Equals && (t class.Reducing && (t class.Declares && (t class.Dots && (t class.Name && (t class.Number && (t class.Widest && (t class.Unknown && (t class.End)))))))))))))))))))))))))))))) (both (t class.OutOrTmp) (t class.Fill && (t class.Shape && (t class.Loop && (t class.If && (t class.Let && (t class.Turn && (t class.Protocol && (t class.Call && (t class.Store && (t class.Element && (t class.OpenBracket && (t class.CloseBracket && (t class.OpenParenthesis && (t class.CloseParenthesis && (t class.OpenBrace && (t class.CloseBrace && (t class.Comma && (t class.Tilde && (t class.Plus && (t class.Minus && (t class.Star && (t class.Comparison && (t class.Equals && (t class.Reducing && (t class.Declares && (t class.Dots && (t class.Name && (t class.Number && (t class.Widest && (t class.Unknown && (t class.End))))))))))))))))))))))))))))))) (both (t class.In) (t class.OutOrTmp && (t class.Fill && (t class.Shape && (t class.Loop && (t class.If && (t class.Let && (t class.Turn && (t class.Protocol && (t class.Call && (t class.Store && (t class.Element && (t class.OpenBracket && (t class.CloseBracket && (t class.OpenParenthesis && (t class.CloseParenthesis && (t class.OpenBrace && (t class.CloseBrace && (t class.Comma && (t class.Tilde && (t class.Plus && (t class.Minus && (t class.Star && (t class.Comparison && (t class.Equals && (t class.Reducing && (t class.Declares && (t class.Dots && (t class.Name && (t class.Number && (t class.Widest && (t class.Unknown && (t class.End)))))))))))))))))))))))))))))))) h).1).1).1).1).1).1).1).1).1).1).1).1).0
-at_each t h class.CloseBracket = (both (t class.CloseBracket) (t class.OpenParenthesis && (t class.CloseParenthesis && (t class.OpenBrace && (t class.CloseBrace && (t class.Comma && (t class.Tilde && (t class.Plus && (t class.Minus && (t class.Star && (t class.Comparison && (t class.Equals && (t class.Reducing && (t class.Declares && (t class.Dots && (t class.Name && (t class.Number && (t class.Widest && (t class.Unknown && (t class.End))))))))))))))))))) (both (t class.OpenBracket) (t class.CloseBracket && (t class.OpenParenthesis && (t class.CloseParenthesis && (t class.OpenBrace && (t class.CloseBrace && (t class.Comma && (t class.Tilde && (t class.Plus && (t class.Minus && (t class.Star && (t class.Comparison && (t class.Equals && (t class.Reducing && (t class.Declares && (t class.Dots && (t class.Name && (t class.Number && (t class.Widest && (t class.Unknown && (t class.End)))))))))))))))))))) (both (t class.Element) (t class.OpenBracket && (t class.CloseBracket && (t class.OpenParenthesis && (t class.CloseParenthesis && (t class.OpenBrace && (t class.CloseBrace && (t class.Comma && (t class.Tilde && (t class.Plus && (t class.Minus && (t class.Star && (t class.Comparison && (t class.Equals && (t class.Reducing && (t class.Declares && (t class.Dots && (t class.Name && (t class.Number && (t class.Widest && (t class.Unknown && (t class.End))))))))))))))))))))) (both (t class.Store) (t class.Element && (t class.OpenBracket && (t class.CloseBracket && (t class.OpenParenthesis && (t class.CloseParenthesis && (t class.OpenBrace && (t class.CloseBrace && (t class.Comma && (t class.Tilde && (t class.Plus && (t class.Minus && (t class.Star && (t class.Comparison && (t class.Equals && (t class.Reducing && (t class.Declares && (t class.Dots && (t class.Name && (t class.Number && (t class.Widest && (t class.Unknown && (t class.End)))))))))))))))))))))) (both (t class.Call) (t class.Store && (t class.Element && (t class.OpenBracket && (t class.CloseBracket && (t class.OpenParenthesis && (t class.CloseParenthesis && (t class.OpenBrace && (t class.CloseBrace && (t class.Comma && (t class.Tilde && (t class.Plus && (t class.Minus && (t class.Star && (t class.Comparison && (t class.Equals && (t class.Reducing && (t class.Declares && (t class.Dots && (t class.Name && (t class.Number && (t class.Widest && (t class.Unknown && (t class.End))))))))))))))))))))))) (both (t class.Protocol) (t class.Call && (t class.Store && (t class.Element && (t class.OpenBracket && (t class.CloseBracket && (t class.OpenParenthesis && (t class.CloseParenthesis && (t class.OpenBrace && (t class.CloseBrace && (t class.Comma && (t class.Tilde && (t class.Plus && (t class.Minus && (t class.Star && (t class.Comparison && (t class.Equals && (t class.Reducing && (t class.Declares && (t class.Dots && (t class.Name && (t class.Number && (t class.Widest && (t class.Unknown && (t class.End)))))))))))))))))))))))) (both (t class.Turn) (t class.Protocol && (t class.Call && (t class.Store && (t class.Element && (t class.OpenBracket && (t class.CloseBracket && (t class.OpenParenthesis && (t class.CloseParenthesis && (t class.OpenBrace && (t class.CloseBrace && (t class.Comma && (t class.Tilde && (t class.Plus && (t class.Minus && (t class.Star && (t class.Comparison && (t class.Equals && (t class.Reducing && (t class.Declares && (t class.Dots && (t class.Name && (t class.Number && (t class.Widest && (t class.Unknown && (t class.End))))))))))))))))))))))))) (both (t class.Let) (t class.Turn && (t class.Protocol && (t class.Call && (t class.Store && (t class.Element && (t class.OpenBracket && (t class.CloseBracket && (t class.OpenParenthesis && (t class.CloseParenthesis && (t class.OpenBrace && (t class.CloseBrace && (t class.Comma && (t class.Tilde && (t class.Plus && (t class.Minus && (t class.Star && (t class.Comparison && (t class.Equals && (t class.Reducing && (t class.Declares && (t class.Dots && (t class.Name && (t class.Number && (t class.Widest && (t class.Unknown && (t class.End)))))))))))))))))))))))))) (both (t class.If) (t class.Let && (t class.Turn && (t class.Protocol && (t class.Call && (t class.Store && (t class.Element && (t class.OpenBracket && (t class.CloseBracket && (t class.OpenParenthesis && (t class.CloseParenthesis && (t class.OpenBrace && (t class.CloseBrace && (t class.Comma && (t class.Tilde && (t class.Plus && (t class.Minus && (t class.Star && (t class.Comparison && (t class.Equals && (t class.Reducing && (t class.Declares && (t class.Dots && (t class.Name && (t class.Number && (t class.Widest && (t class.Unknown && (t class.End))))))))))))))))))))))))))) (both (t class.Loop) (t class.If && (t class.Let && (t class.Turn && (t class.Protocol && (t class.Call && (t class.Store && (t class.Element && (t class.OpenBracket && (t class.CloseBracket && (t class.OpenParenthesis && (t class.CloseParenthesis && (t class.OpenBrace && (t class.CloseBrace && (t class.Comma && (t class.Tilde && (t class.Plus && (t class.Minus && (t class.Star && (t class.Comparison && (t class.Equals && (t class.Reducing && (t class.Declares && (t class.Dots && (t class.Name && (t class.Number && (t class.Widest && (t class.Unknown && (t class.End)))))))))))))))))))))))))))) (both (t class.Shape) (t class.Loop && (t class.If && (t class.Let && (t class.Turn && (t class.Protocol && (t class.Call && (t class.Store && (t class.Element && (t class.OpenBracket && (t class.CloseBracket && (t class.OpenParenthesis && (t class.CloseParenthesis && (t class.OpenBrace && (t class.CloseBrace && (t class.Comma && (t class.Tilde && (t class.Plus && (t class.Minus && (t class.Star && (t class.Comparison && (t class.Equals && (t class.Reducing && (t class.Declares && (t class.Dots && (t class.Name && (t class.Number && (t class.Widest && (t class.Unknown && (t class.End))))))))))))))))))))))))))))) (both (t class.Fill) (t class.Shape && (t class.Loop && (t class.If && (t class.Let && (t class.Turn && (t class.Protocol && (t class.Call && (t class.Store && (t class.Element && (t class.OpenBracket && (t class.CloseBracket && (t class.OpenParenthesis && (t class.CloseParenthesis && (t class.OpenBrace && (t class.CloseBrace && (t class.Comma && (t class.Tilde && (t class.Plus && (t class.Minus && (t class.Star && (t class.Comparison && (t class.Equals && (t class.Reducing && (t class.Declares && (t class.Dots && (t class.Name && (t class.Number && (t class.Widest && (t class.Unknown && (t class.End)))))))))))))))))))))))))))))) (both (t class.OutOrTmp) (t class.Fill && (t class.Shape && (t class.Loop && (t class.If && (t class.Let && (t class.Turn && (t class.Protocol && (t class.Call && (t class.Store && (t class.Element && (t class.OpenBracket && (t class.CloseBracket && (t class.OpenParenthesis && (t class.CloseParenthesis && (t class.OpenBrace && (t class.CloseBrace && (t class.Comma && (t class.Tilde && (t class.Plus && (t class.Minus && (t class.Star && (t class.Comparison && (t class.Equals && (t class.Reducing && (t class.Declares && (t class.Dots && (t class.Name && (t class.Number && (t class.Widest && (t class.Unknown && (t class.End))))))))))))))))))))))))))))))) (both (t class.In) (t class.OutOrTmp && (t class.Fill && (t class.Shape && (t class.Loop && (t class.If && (t class.Let && (t class.Turn && (t class.Protocol && (t class.Call && (t class.Store && (t class.Element && (t class.OpenBracket && (t class.CloseBracket && (t class.OpenParenthesis && (t class.CloseParenthesis && (t class.OpenBrace && (t class.CloseBrace && (t class.Comma && (t class.Tilde && (t class.Plus && (t class.Minus && (t class.Star && (t class.Comparison && (t class.Equals && (t class.Reducing && (t class.Declares && (t class.Dots && (t class.Name && (t class.Number && (t class.Widest && (t class.Unknown && (t class.End)))))))))))))))))))))))))))))))) h).1).1).1).1).1).1).1).1).1).1).1).1).1).0
-at_each t h class.OpenParenthesis = (both (t class.OpenParenthesis) (t class.CloseParenthesis && (t class.OpenBrace && (t class.CloseBrace && (t class.Comma && (t class.Tilde && (t class.Plus && (t class.Minus && (t class.Star && (t class.Comparison && (t class.Equals && (t class.Reducing && (t class.Declares && (t class.Dots && (t class.Name && (t class.Number && (t class.Widest && (t class.Unknown && (t class.End)))))))))))))))))) (both (t class.CloseBracket) (t class.OpenParenthesis && (t class.CloseParenthesis && (t class.OpenBrace && (t class.CloseBrace && (t class.Comma && (t class.Tilde && (t class.Plus && (t class.Minus && (t class.Star && (t class.Comparison && (t class.Equals && (t class.Reducing && (t class.Declares && (t class.Dots && (t class.Name && (t class.Number && (t class.Widest && (t class.Unknown && (t class.End))))))))))))))))))) (both (t class.OpenBracket) (t class.CloseBracket && (t class.OpenParenthesis && (t class.CloseParenthesis && (t class.OpenBrace && (t class.CloseBrace && (t class.Comma && (t class.Tilde && (t class.Plus && (t class.Minus && (t class.Star && (t class.Comparison && (t class.Equals && (t class.Reducing && (t class.Declares && (t class.Dots && (t class.Name && (t class.Number && (t class.Widest && (t class.Unknown && (t class.End)))))))))))))))))))) (both (t class.Element) (t class.OpenBracket && (t class.CloseBracket && (t class.OpenParenthesis && (t class.CloseParenthesis && (t class.OpenBrace && (t class.CloseBrace && (t class.Comma && (t class.Tilde && (t class.Plus && (t class.Minus && (t class.Star && (t class.Comparison && (t class.Equals && (t class.Reducing && (t class.Declares && (t class.Dots && (t class.Name && (t class.Number && (t class.Widest && (t class.Unknown && (t class.End))))))))))))))))))))) (both (t class.Store) (t class.Element && (t class.OpenBracket && (t class.CloseBracket && (t class.OpenParenthesis && (t class.CloseParenthesis && (t class.OpenBrace && (t class.CloseBrace && (t class.Comma && (t class.Tilde && (t class.Plus && (t class.Minus && (t class.Star && (t class.Comparison && (t class.Equals && (t class.Reducing && (t class.Declares && (t class.Dots && (t class.Name && (t class.Number && (t class.Widest && (t class.Unknown && (t class.End)))))))))))))))))))))) (both (t class.Call) (t class.Store && (t class.Element && (t class.OpenBracket && (t class.CloseBracket && (t class.OpenParenthesis && (t class.CloseParenthesis && (t class.OpenBrace && (t class.CloseBrace && (t class.Comma && (t class.Tilde && (t class.Plus && (t class.Minus && (t class.Star && (t class.Comparison && (t class.Equals && (t class.Reducing && (t class.Declares && (t class.Dots && (t class.Name && (t class.Number && (t class.Widest && (t class.Unknown && (t class.End))))))))))))))))))))))) (both (t class.Protocol) (t class.Call && (t class.Store && (t class.Element && (t class.OpenBracket && (t class.CloseBracket && (t class.OpenParenthesis && (t class.CloseParenthesis && (t class.OpenBrace && (t class.CloseBrace && (t class.Comma && (t class.Tilde && (t class.Plus && (t class.Minus && (t class.Star && (t class.Comparison && (t class.Equals && (t class.Reducing && (t class.Declares && (t class.Dots && (t class.Name && (t class.Number && (t class.Widest && (t class.Unknown && (t class.End)))))))))))))))))))))))) (both (t class.Turn) (t class.Protocol && (t class.Call && (t class.Store && (t class.Element && (t class.OpenBracket && (t class.CloseBracket && (t class.OpenParenthesis && (t class.CloseParenthesis && (t class.OpenBrace && (t class.CloseBrace && (t class.Comma && (t class.Tilde && (t class.Plus && (t class.Minus && (t class.Star && (t class.Comparison && (t class.Equals && (t class.Reducing && (t class.Declares && (t class.Dots && (t class.Name && (t class.Number && (t class.Widest && (t class.Unknown && (t class.End))))))))))))))))))))))))) (both (t class.Let) (t class.Turn && (t class.Protocol && (t class.Call && (t class.Store && (t class.Element && (t class.OpenBracket && (t class.CloseBracket && (t class.OpenParenthesis && (t class.CloseParenthesis && (t class.OpenBrace && (t class.CloseBrace && (t class.Comma && (t class.Tilde && (t class.Plus && (t class.Minus && (t class.Star && (t class.Comparison && (t class.Equals && (t class.Reducing && (t class.Declares && (t class.Dots && (t class.Name && (t class.Number && (t class.Widest && (t class.Unknown && (t class.End)))))))))))))))))))))))))) (both (t class.If) (t class.Let && (t class.Turn && (t class.Protocol && (t class.Call && (t class.Store && (t class.Element && (t class.OpenBracket && (t class.CloseBracket && (t class.OpenParenthesis && (t class.CloseParenthesis && (t class.OpenBrace && (t class.CloseBrace && (t class.Comma && (t class.Tilde && (t class.Plus && (t class.Minus && (t class.Star && (t class.Comparison && (t class.Equals && (t class.Reducing && (t class.Declares && (t class.Dots && (t class.Name && (t class.Number && (t class.Widest && (t class.Unknown && (t class.End))))))))))))))))))))))))))) (both (t class.Loop) (t class.If && (t class.Let && (t class.Turn && (t class.Protocol && (t class.Call && (t class.Store && (t class.Element && (t class.OpenBracket && (t class.CloseBracket && (t class.OpenParenthesis && (t class.CloseParenthesis && (t class.OpenBrace && (t class.CloseBrace && (t class.Comma && (t class.Tilde && (t class.Plus && (t class.Minus && (t class.Star && (t class.Comparison && (t class.Equals && (t class.Reducing && (t class.Declares && (t class.Dots && (t class.Name && (t class.Number && (t class.Widest && (t class.Unknown && (t class.End)))))))))))))))))))))))))))) (both (t class.Shape) (t class.Loop && (t class.If && (t class.Let && (t class.Turn && (t class.Protocol && (t class.Call && (t class.Store && (t class.Element && (t class.OpenBracket && (t class.CloseBracket && (t class.OpenParenthesis && (t class.CloseParenthesis && (t class.OpenBrace && (t class.CloseBrace && (t class.Comma && (t class.Tilde && (t class.Plus && (t class.Minus && (t class.Star && (t class.Comparison && (t class.Equals && (t class.Reducing && (t class.Declares && (t class.Dots && (t class.Name && (t class.Number && (t class.Widest && (t class.Unknown && (t class.End))))))))))))))))))))))))))))) (both (t class.Fill) (t class.Shape && (t class.Loop && (t class.If && (t class.Let && (t class.Turn && (t class.Protocol && (t class.Call && (t class.Store && (t class.Element && (t class.OpenBracket && (t class.CloseBracket && (t class.OpenParenthesis && (t class.CloseParenthesis && (t class.OpenBrace && (t class.CloseBrace && (t class.Comma && (t class.Tilde && (t class.Plus && (t class.Minus && (t class.Star && (t class.Comparison && (t class.Equals && (t class.Reducing && (t class.Declares && (t class.Dots && (t class.Name && (t class.Number && (t class.Widest && (t class.Unknown && (t class.End)))))))))))))))))))))))))))))) (both (t class.OutOrTmp) (t class.Fill && (t class.Shape && (t class.Loop && (t class.If && (t class.Let && (t class.Turn && (t class.Protocol && (t class.Call && (t class.Store && (t class.Element && (t class.OpenBracket && (t class.CloseBracket && (t class.OpenParenthesis && (t class.CloseParenthesis && (t class.OpenBrace && (t class.CloseBrace && (t class.Comma && (t class.Tilde && (t class.Plus && (t class.Minus && (t class.Star && (t class.Comparison && (t class.Equals && (t class.Reducing && (t class.Declares && (t class.Dots && (t class.Name && (t class.Number && (t class.Widest && (t class.Unknown && (t class.End))))))))))))))))))))))))))))))) (both (t class.In) (t class.OutOrTmp && (t class.Fill && (t class.Shape && (t class.Loop && (t class.If && (t class.Let && (t class.Turn && (t class.Protocol && (t class.Call && (t class.Store && (t class.Element && (t class.OpenBracket && (t class.CloseBracket && (t class.OpenParenthesis && (t class.CloseParenthesis && (t class.OpenBrace && (t class.CloseBrace && (t class.Comma && (t class.Tilde && (t class.Plus && (t class.Minus && (t class.Star && (t class.Comparison && (t class.Equals && (t class.Reducing && (t class.Declares && (t class.Dots && (t class.Name && (t class.Number && (t class.Widest && (t class.Unknown && (t class.End)))))))))))))))))))))))))))))))) h).1).1).1).1).1).1).1).1).1).1).1).1).1).1).0
-at_each t h class.CloseParenthesis = (both (t class.CloseParenthesis) (t class.OpenBrace && (t class.CloseBrace && (t class.Comma && (t class.Tilde && (t class.Plus && (t class.Minus && (t class.Star && (t class.Comparison && (t class.Equals && (t class.Reducing && (t class.Declares && (t class.Dots && (t class.Name && (t class.Number && (t class.Widest && (t class.Unknown && (t class.End))))))))))))))))) (both (t class.OpenParenthesis) (t class.CloseParenthesis && (t class.OpenBrace && (t class.CloseBrace && (t class.Comma && (t class.Tilde && (t class.Plus && (t class.Minus && (t class.Star && (t class.Comparison && (t class.Equals && (t class.Reducing && (t class.Declares && (t class.Dots && (t class.Name && (t class.Number && (t class.Widest && (t class.Unknown && (t class.End)))))))))))))))))) (both (t class.CloseBracket) (t class.OpenParenthesis && (t class.CloseParenthesis && (t class.OpenBrace && (t class.CloseBrace && (t class.Comma && (t class.Tilde && (t class.Plus && (t class.Minus && (t class.Star && (t class.Comparison && (t class.Equals && (t class.Reducing && (t class.Declares && (t class.Dots && (t class.Name && (t class.Number && (t class.Widest && (t class.Unknown && (t class.End))))))))))))))))))) (both (t class.OpenBracket) (t class.CloseBracket && (t class.OpenParenthesis && (t class.CloseParenthesis && (t class.OpenBrace && (t class.CloseBrace && (t class.Comma && (t class.Tilde && (t class.Plus && (t class.Minus && (t class.Star && (t class.Comparison && (t class.Equals && (t class.Reducing && (t class.Declares && (t class.Dots && (t class.Name && (t class.Number && (t class.Widest && (t class.Unknown && (t class.End)))))))))))))))))))) (both (t class.Element) (t class.OpenBracket && (t class.CloseBracket && (t class.OpenParenthesis && (t class.CloseParenthesis && (t class.OpenBrace && (t class.CloseBrace && (t class.Comma && (t class.Tilde && (t class.Plus && (t class.Minus && (t class.Star && (t class.Comparison && (t class.Equals && (t class.Reducing && (t class.Declares && (t class.Dots && (t class.Name && (t class.Number && (t class.Widest && (t class.Unknown && (t class.End))))))))))))))))))))) (both (t class.Store) (t class.Element && (t class.OpenBracket && (t class.CloseBracket && (t class.OpenParenthesis && (t class.CloseParenthesis && (t class.OpenBrace && (t class.CloseBrace && (t class.Comma && (t class.Tilde && (t class.Plus && (t class.Minus && (t class.Star && (t class.Comparison && (t class.Equals && (t class.Reducing && (t class.Declares && (t class.Dots && (t class.Name && (t class.Number && (t class.Widest && (t class.Unknown && (t class.End)))))))))))))))))))))) (both (t class.Call) (t class.Store && (t class.Element && (t class.OpenBracket && (t class.CloseBracket && (t class.OpenParenthesis && (t class.CloseParenthesis && (t class.OpenBrace && (t class.CloseBrace && (t class.Comma && (t class.Tilde && (t class.Plus && (t class.Minus && (t class.Star && (t class.Comparison && (t class.Equals && (t class.Reducing && (t class.Declares && (t class.Dots && (t class.Name && (t class.Number && (t class.Widest && (t class.Unknown && (t class.End))))))))))))))))))))))) (both (t class.Protocol) (t class.Call && (t class.Store && (t class.Element && (t class.OpenBracket && (t class.CloseBracket && (t class.OpenParenthesis && (t class.CloseParenthesis && (t class.OpenBrace && (t class.CloseBrace && (t class.Comma && (t class.Tilde && (t class.Plus && (t class.Minus && (t class.Star && (t class.Comparison && (t class.Equals && (t class.Reducing && (t class.Declares && (t class.Dots && (t class.Name && (t class.Number && (t class.Widest && (t class.Unknown && (t class.End)))))))))))))))))))))))) (both (t class.Turn) (t class.Protocol && (t class.Call && (t class.Store && (t class.Element && (t class.OpenBracket && (t class.CloseBracket && (t class.OpenParenthesis && (t class.CloseParenthesis && (t class.OpenBrace && (t class.CloseBrace && (t class.Comma && (t class.Tilde && (t class.Plus && (t class.Minus && (t class.Star && (t class.Comparison && (t class.Equals && (t class.Reducing && (t class.Declares && (t class.Dots && (t class.Name && (t class.Number && (t class.Widest && (t class.Unknown && (t class.End))))))))))))))))))))))))) (both (t class.Let) (t class.Turn && (t class.Protocol && (t class.Call && (t class.Store && (t class.Element && (t class.OpenBracket && (t class.CloseBracket && (t class.OpenParenthesis && (t class.CloseParenthesis && (t class.OpenBrace && (t class.CloseBrace && (t class.Comma && (t class.Tilde && (t class.Plus && (t class.Minus && (t class.Star && (t class.Comparison && (t class.Equals && (t class.Reducing && (t class.Declares && (t class.Dots && (t class.Name && (t class.Number && (t class.Widest && (t class.Unknown && (t class.End)))))))))))))))))))))))))) (both (t class.If) (t class.Let && (t class.Turn && (t class.Protocol && (t class.Call && (t class.Store && (t class.Element && (t class.OpenBracket && (t class.CloseBracket && (t class.OpenParenthesis && (t class.CloseParenthesis && (t class.OpenBrace && (t class.CloseBrace && (t class.Comma && (t class.Tilde && (t class.Plus && (t class.Minus && (t class.Star && (t class.Comparison && (t class.Equals && (t class.Reducing && (t class.Declares && (t class.Dots && (t class.Name && (t class.Number && (t class.Widest && (t class.Unknown && (t class.End))))))))))))))))))))))))))) (both (t class.Loop) (t class.If && (t class.Let && (t class.Turn && (t class.Protocol && (t class.Call && (t class.Store && (t class.Element && (t class.OpenBracket && (t class.CloseBracket && (t class.OpenParenthesis && (t class.CloseParenthesis && (t class.OpenBrace && (t class.CloseBrace && (t class.Comma && (t class.Tilde && (t class.Plus && (t class.Minus && (t class.Star && (t class.Comparison && (t class.Equals && (t class.Reducing && (t class.Declares && (t class.Dots && (t class.Name && (t class.Number && (t class.Widest && (t class.Unknown && (t class.End)))))))))))))))))))))))))))) (both (t class.Shape) (t class.Loop && (t class.If && (t class.Let && (t class.Turn && (t class.Protocol && (t class.Call && (t class.Store && (t class.Element && (t class.OpenBracket && (t class.CloseBracket && (t class.OpenParenthesis && (t class.CloseParenthesis && (t class.OpenBrace && (t class.CloseBrace && (t class.Comma && (t class.Tilde && (t class.Plus && (t class.Minus && (t class.Star && (t class.Comparison && (t class.Equals && (t class.Reducing && (t class.Declares && (t class.Dots && (t class.Name && (t class.Number && (t class.Widest && (t class.Unknown && (t class.End))))))))))))))))))))))))))))) (both (t class.Fill) (t class.Shape && (t class.Loop && (t class.If && (t class.Let && (t class.Turn && (t class.Protocol && (t class.Call && (t class.Store && (t class.Element && (t class.OpenBracket && (t class.CloseBracket && (t class.OpenParenthesis && (t class.CloseParenthesis && (t class.OpenBrace && (t class.CloseBrace && (t class.Comma && (t class.Tilde && (t class.Plus && (t class.Minus && (t class.Star && (t class.Comparison && (t class.Equals && (t class.Reducing && (t class.Declares && (t class.Dots && (t class.Name && (t class.Number && (t class.Widest && (t class.Unknown && (t class.End)))))))))))))))))))))))))))))) (both (t class.OutOrTmp) (t class.Fill && (t class.Shape && (t class.Loop && (t class.If && (t class.Let && (t class.Turn && (t class.Protocol && (t class.Call && (t class.Store && (t class.Element && (t class.OpenBracket && (t class.CloseBracket && (t class.OpenParenthesis && (t class.CloseParenthesis && (t class.OpenBrace && (t class.CloseBrace && (t class.Comma && (t class.Tilde && (t class.Plus && (t class.Minus && (t class.Star && (t class.Comparison && (t class.Equals && (t class.Reducing && (t class.Declares && (t class.Dots && (t class.Name && (t class.Number && (t class.Widest && (t class.Unknown && (t class.End))))))))))))))))))))))))))))))) (both (t class.In) (t class.OutOrTmp && (t class.Fill && (t class.Shape && (t class.Loop && (t class.If && (t class.Let && (t class.Turn && (t class.Protocol && (t class.Call && (t class.Store && (t class.Element && (t class.OpenBracket && (t class.CloseBracket && (t class.OpenParenthesis && (t class.CloseParenthesis && (t class.OpenBrace && (t class.CloseBrace && (t class.Comma && (t class.Tilde && (t class.Plus && (t class.Minus && (t class.Star && (t class.Comparison && (t class.Equals && (t class.Reducing && (t class.Declares && (t class.Dots && (t class.Name && (t class.Number && (t class.Widest && (t class.Unknown && (t class.End)))))))))))))))))))))))))))))))) h).1).1).1).1).1).1).1).1).1).1).1).1).1).1).1).0
-at_each t h class.OpenBrace = (both (t class.OpenBrace) (t class.CloseBrace && (t class.Comma && (t class.Tilde && (t class.Plus && (t class.Minus && (t class.Star && (t class.Comparison && (t class.Equals && (t class.Reducing && (t class.Declares && (t class.Dots && (t class.Name && (t class.Number && (t class.Widest && (t class.Unknown && (t class.End)))))))))))))))) (both (t class.CloseParenthesis) (t class.OpenBrace && (t class.CloseBrace && (t class.Comma && (t class.Tilde && (t class.Plus && (t class.Minus && (t class.Star && (t class.Comparison && (t class.Equals && (t class.Reducing && (t class.Declares && (t class.Dots && (t class.Name && (t class.Number && (t class.Widest && (t class.Unknown && (t class.End))))))))))))))))) (both (t class.OpenParenthesis) (t class.CloseParenthesis && (t class.OpenBrace && (t class.CloseBrace && (t class.Comma && (t class.Tilde && (t class.Plus && (t class.Minus && (t class.Star && (t class.Comparison && (t class.Equals && (t class.Reducing && (t class.Declares && (t class.Dots && (t class.Name && (t class.Number && (t class.Widest && (t class.Unknown && (t class.End)))))))))))))))))) (both (t class.CloseBracket) (t class.OpenParenthesis && (t class.CloseParenthesis && (t class.OpenBrace && (t class.CloseBrace && (t class.Comma && (t class.Tilde && (t class.Plus && (t class.Minus && (t class.Star && (t class.Comparison && (t class.Equals && (t class.Reducing && (t class.Declares && (t class.Dots && (t class.Name && (t class.Number && (t class.Widest && (t class.Unknown && (t class.End))))))))))))))))))) (both (t class.OpenBracket) (t class.CloseBracket && (t class.OpenParenthesis && (t class.CloseParenthesis && (t class.OpenBrace && (t class.CloseBrace && (t class.Comma && (t class.Tilde && (t class.Plus && (t class.Minus && (t class.Star && (t class.Comparison && (t class.Equals && (t class.Reducing && (t class.Declares && (t class.Dots && (t class.Name && (t class.Number && (t class.Widest && (t class.Unknown && (t class.End)))))))))))))))))))) (both (t class.Element) (t class.OpenBracket && (t class.CloseBracket && (t class.OpenParenthesis && (t class.CloseParenthesis && (t class.OpenBrace && (t class.CloseBrace && (t class.Comma && (t class.Tilde && (t class.Plus && (t class.Minus && (t class.Star && (t class.Comparison && (t class.Equals && (t class.Reducing && (t class.Declares && (t class.Dots && (t class.Name && (t class.Number && (t class.Widest && (t class.Unknown && (t class.End))))))))))))))))))))) (both (t class.Store) (t class.Element && (t class.OpenBracket && (t class.CloseBracket && (t class.OpenParenthesis && (t class.CloseParenthesis && (t class.OpenBrace && (t class.CloseBrace && (t class.Comma && (t class.Tilde && (t class.Plus && (t class.Minus && (t class.Star && (t class.Comparison && (t class.Equals && (t class.Reducing && (t class.Declares && (t class.Dots && (t class.Name && (t class.Number && (t class.Widest && (t class.Unknown && (t class.End)))))))))))))))))))))) (both (t class.Call) (t class.Store && (t class.Element && (t class.OpenBracket && (t class.CloseBracket && (t class.OpenParenthesis && (t class.CloseParenthesis && (t class.OpenBrace && (t class.CloseBrace && (t class.Comma && (t class.Tilde && (t class.Plus && (t class.Minus && (t class.Star && (t class.Comparison && (t class.Equals && (t class.Reducing && (t class.Declares && (t class.Dots && (t class.Name && (t class.Number && (t class.Widest && (t class.Unknown && (t class.End))))))))))))))))))))))) (both (t class.Protocol) (t class.Call && (t class.Store && (t class.Element && (t class.OpenBracket && (t class.CloseBracket && (t class.OpenParenthesis && (t class.CloseParenthesis && (t class.OpenBrace && (t class.CloseBrace && (t class.Comma && (t class.Tilde && (t class.Plus && (t class.Minus && (t class.Star && (t class.Comparison && (t class.Equals && (t class.Reducing && (t class.Declares && (t class.Dots && (t class.Name && (t class.Number && (t class.Widest && (t class.Unknown && (t class.End)))))))))))))))))))))))) (both (t class.Turn) (t class.Protocol && (t class.Call && (t class.Store && (t class.Element && (t class.OpenBracket && (t class.CloseBracket && (t class.OpenParenthesis && (t class.CloseParenthesis && (t class.OpenBrace && (t class.CloseBrace && (t class.Comma && (t class.Tilde && (t class.Plus && (t class.Minus && (t class.Star && (t class.Comparison && (t class.Equals && (t class.Reducing && (t class.Declares && (t class.Dots && (t class.Name && (t class.Number && (t class.Widest && (t class.Unknown && (t class.End))))))))))))))))))))))))) (both (t class.Let) (t class.Turn && (t class.Protocol && (t class.Call && (t class.Store && (t class.Element && (t class.OpenBracket && (t class.CloseBracket && (t class.OpenParenthesis && (t class.CloseParenthesis && (t class.OpenBrace && (t class.CloseBrace && (t class.Comma && (t class.Tilde && (t class.Plus && (t class.Minus && (t class.Star && (t class.Comparison && (t class.Equals && (t class.Reducing && (t class.Declares && (t class.Dots && (t class.Name && (t class.Number && (t class.Widest && (t class.Unknown && (t class.End)))))))))))))))))))))))))) (both (t class.If) (t class.Let && (t class.Turn && (t class.Protocol && (t class.Call && (t class.Store && (t class.Element && (t class.OpenBracket && (t class.CloseBracket && (t class.OpenParenthesis && (t class.CloseParenthesis && (t class.OpenBrace && (t class.CloseBrace && (t class.Comma && (t class.Tilde && (t class.Plus && (t class.Minus && (t class.Star && (t class.Comparison && (t class.Equals && (t class.Reducing && (t class.Declares && (t class.Dots && (t class.Name && (t class.Number && (t class.Widest && (t class.Unknown && (t class.End))))))))))))))))))))))))))) (both (t class.Loop) (t class.If && (t class.Let && (t class.Turn && (t class.Protocol && (t class.Call && (t class.Store && (t class.Element && (t class.OpenBracket && (t class.CloseBracket && (t class.OpenParenthesis && (t class.CloseParenthesis && (t class.OpenBrace && (t class.CloseBrace && (t class.Comma && (t class.Tilde && (t class.Plus && (t class.Minus && (t class.Star && (t class.Comparison && (t class.Equals && (t class.Reducing && (t class.Declares && (t class.Dots && (t class.Name && (t class.Number && (t class.Widest && (t class.Unknown && (t class.End)))))))))))))))))))))))))))) (both (t class.Shape) (t class.Loop && (t class.If && (t class.Let && (t class.Turn && (t class.Protocol && (t class.Call && (t class.Store && (t class.Element && (t class.OpenBracket && (t class.CloseBracket && (t class.OpenParenthesis && (t class.CloseParenthesis && (t class.OpenBrace && (t class.CloseBrace && (t class.Comma && (t class.Tilde && (t class.Plus && (t class.Minus && (t class.Star && (t class.Comparison && (t class.Equals && (t class.Reducing && (t class.Declares && (t class.Dots && (t class.Name && (t class.Number && (t class.Widest && (t class.Unknown && (t class.End))))))))))))))))))))))))))))) (both (t class.Fill) (t class.Shape && (t class.Loop && (t class.If && (t class.Let && (t class.Turn && (t class.Protocol && (t class.Call && (t class.Store && (t class.Element && (t class.OpenBracket && (t class.CloseBracket && (t class.OpenParenthesis && (t class.CloseParenthesis && (t class.OpenBrace && (t class.CloseBrace && (t class.Comma && (t class.Tilde && (t class.Plus && (t class.Minus && (t class.Star && (t class.Comparison && (t class.Equals && (t class.Reducing && (t class.Declares && (t class.Dots && (t class.Name && (t class.Number && (t class.Widest && (t class.Unknown && (t class.End)))))))))))))))))))))))))))))) (both (t class.OutOrTmp) (t class.Fill && (t class.Shape && (t class.Loop && (t class.If && (t class.Let && (t class.Turn && (t class.Protocol && (t class.Call && (t class.Store && (t class.Element && (t class.OpenBracket && (t class.CloseBracket && (t class.OpenParenthesis && (t class.CloseParenthesis && (t class.OpenBrace && (t class.CloseBrace && (t class.Comma && (t class.Tilde && (t class.Plus && (t class.Minus && (t class.Star && (t class.Comparison && (t class.Equals && (t class.Reducing && (t class.Declares && (t class.Dots && (t class.Name && (t class.Number && (t class.Widest && (t class.Unknown && (t class.End))))))))))))))))))))))))))))))) (both (t class.In) (t class.OutOrTmp && (t class.Fill && (t class.Shape && (t class.Loop && (t class.If && (t class.Let && (t class.Turn && (t class.Protocol && (t class.Call && (t class.Store && (t class.Element && (t class.OpenBracket && (t class.CloseBracket && (t class.OpenParenthesis && (t class.CloseParenthesis && (t class.OpenBrace && (t class.CloseBrace && (t class.Comma && (t class.Tilde && (t class.Plus && (t class.Minus && (t class.Star && (t class.Comparison && (t class.Equals && (t class.Reducing && (t class.Declares && (t class.Dots && (t class.Name && (t class.Number && (t class.Widest && (t class.Unknown && (t class.End)))))))))))))))))))))))))))))))) h).1).1).1).1).1).1).1).1).1).1).1).1).1).1).1).1).0
-at_each t h class.CloseBrace = (both (t class.CloseBrace) (t class.Comma && (t class.Tilde && (t class.Plus && (t class.Minus && (t class.Star && (t class.Comparison && (t class.Equals && (t class.Reducing && (t class.Declares && (t class.Dots && (t class.Name && (t class.Number && (t class.Widest && (t class.Unknown && (t class.End))))))))))))))) (both (t class.OpenBrace) (t class.CloseBrace && (t class.Comma && (t class.Tilde && (t class.Plus && (t class.Minus && (t class.Star && (t class.Comparison && (t class.Equals && (t class.Reducing && (t class.Declares && (t class.Dots && (t class.Name && (t class.Number && (t class.Widest && (t class.Unknown && (t class.End)))))))))))))))) (both (t class.CloseParenthesis) (t class.OpenBrace && (t class.CloseBrace && (t class.Comma && (t class.Tilde && (t class.Plus && (t class.Minus && (t class.Star && (t class.Comparison && (t class.Equals && (t class.Reducing && (t class.Declares && (t class.Dots && (t class.Name && (t class.Number && (t class.Widest && (t class.Unknown && (t class.End))))))))))))))))) (both (t class.OpenParenthesis) (t class.CloseParenthesis && (t class.OpenBrace && (t class.CloseBrace && (t class.Comma && (t class.Tilde && (t class.Plus && (t class.Minus && (t class.Star && (t class.Comparison && (t class.Equals && (t class.Reducing && (t class.Declares && (t class.Dots && (t class.Name && (t class.Number && (t class.Widest && (t class.Unknown && (t class.End)))))))))))))))))) (both (t class.CloseBracket) (t class.OpenParenthesis && (t class.CloseParenthesis && (t class.OpenBrace && (t class.CloseBrace && (t class.Comma && (t class.Tilde && (t class.Plus && (t class.Minus && (t class.Star && (t class.Comparison && (t class.Equals && (t class.Reducing && (t class.Declares && (t class.Dots && (t class.Name && (t class.Number && (t class.Widest && (t class.Unknown && (t class.End))))))))))))))))))) (both (t class.OpenBracket) (t class.CloseBracket && (t class.OpenParenthesis && (t class.CloseParenthesis && (t class.OpenBrace && (t class.CloseBrace && (t class.Comma && (t class.Tilde && (t class.Plus && (t class.Minus && (t class.Star && (t class.Comparison && (t class.Equals && (t class.Reducing && (t class.Declares && (t class.Dots && (t class.Name && (t class.Number && (t class.Widest && (t class.Unknown && (t class.End)))))))))))))))))))) (both (t class.Element) (t class.OpenBracket && (t class.CloseBracket && (t class.OpenParenthesis && (t class.CloseParenthesis && (t class.OpenBrace && (t class.CloseBrace && (t class.Comma && (t class.Tilde && (t class.Plus && (t class.Minus && (t class.Star && (t class.Comparison && (t class.Equals && (t class.Reducing && (t class.Declares && (t class.Dots && (t class.Name && (t class.Number && (t class.Widest && (t class.Unknown && (t class.End))))))))))))))))))))) (both (t class.Store) (t class.Element && (t class.OpenBracket && (t class.CloseBracket && (t class.OpenParenthesis && (t class.CloseParenthesis && (t class.OpenBrace && (t class.CloseBrace && (t class.Comma && (t class.Tilde && (t class.Plus && (t class.Minus && (t class.Star && (t class.Comparison && (t class.Equals && (t class.Reducing && (t class.Declares && (t class.Dots && (t class.Name && (t class.Number && (t class.Widest && (t class.Unknown && (t class.End)))))))))))))))))))))) (both (t class.Call) (t class.Store && (t class.Element && (t class.OpenBracket && (t class.CloseBracket && (t class.OpenParenthesis && (t class.CloseParenthesis && (t class.OpenBrace && (t class.CloseBrace && (t class.Comma && (t class.Tilde && (t class.Plus && (t class.Minus && (t class.Star && (t class.Comparison && (t class.Equals && (t class.Reducing && (t class.Declares && (t class.Dots && (t class.Name && (t class.Number && (t class.Widest && (t class.Unknown && (t class.End))))))))))))))))))))))) (both (t class.Protocol) (t class.Call && (t class.Store && (t class.Element && (t class.OpenBracket && (t class.CloseBracket && (t class.OpenParenthesis && (t class.CloseParenthesis && (t class.OpenBrace && (t class.CloseBrace && (t class.Comma && (t class.Tilde && (t class.Plus && (t class.Minus && (t class.Star && (t class.Comparison && (t class.Equals && (t class.Reducing && (t class.Declares && (t class.Dots && (t class.Name && (t class.Number && (t class.Widest && (t class.Unknown && (t class.End)))))))))))))))))))))))) (both (t class.Turn) (t class.Protocol && (t class.Call && (t class.Store && (t class.Element && (t class.OpenBracket && (t class.CloseBracket && (t class.OpenParenthesis && (t class.CloseParenthesis && (t class.OpenBrace && (t class.CloseBrace && (t class.Comma && (t class.Tilde && (t class.Plus && (t class.Minus && (t class.Star && (t class.Comparison && (t class.Equals && (t class.Reducing && (t class.Declares && (t class.Dots && (t class.Name && (t class.Number && (t class.Widest && (t class.Unknown && (t class.End))))))))))))))))))))))))) (both (t class.Let) (t class.Turn && (t class.Protocol && (t class.Call && (t class.Store && (t class.Element && (t class.OpenBracket && (t class.CloseBracket && (t class.OpenParenthesis && (t class.CloseParenthesis && (t class.OpenBrace && (t class.CloseBrace && (t class.Comma && (t class.Tilde && (t class.Plus && (t class.Minus && (t class.Star && (t class.Comparison && (t class.Equals && (t class.Reducing && (t class.Declares && (t class.Dots && (t class.Name && (t class.Number && (t class.Widest && (t class.Unknown && (t class.End)))))))))))))))))))))))))) (both (t class.If) (t class.Let && (t class.Turn && (t class.Protocol && (t class.Call && (t class.Store && (t class.Element && (t class.OpenBracket && (t class.CloseBracket && (t class.OpenParenthesis && (t class.CloseParenthesis && (t class.OpenBrace && (t class.CloseBrace && (t class.Comma && (t class.Tilde && (t class.Plus && (t class.Minus && (t class.Star && (t class.Comparison && (t class.Equals && (t class.Reducing && (t class.Declares && (t class.Dots && (t class.Name && (t class.Number && (t class.Widest && (t class.Unknown && (t class.End))))))))))))))))))))))))))) (both (t class.Loop) (t class.If && (t class.Let && (t class.Turn && (t class.Protocol && (t class.Call && (t class.Store && (t class.Element && (t class.OpenBracket && (t class.CloseBracket && (t class.OpenParenthesis && (t class.CloseParenthesis && (t class.OpenBrace && (t class.CloseBrace && (t class.Comma && (t class.Tilde && (t class.Plus && (t class.Minus && (t class.Star && (t class.Comparison && (t class.Equals && (t class.Reducing && (t class.Declares && (t class.Dots && (t class.Name && (t class.Number && (t class.Widest && (t class.Unknown && (t class.End)))))))))))))))))))))))))))) (both (t class.Shape) (t class.Loop && (t class.If && (t class.Let && (t class.Turn && (t class.Protocol && (t class.Call && (t class.Store && (t class.Element && (t class.OpenBracket && (t class.CloseBracket && (t class.OpenParenthesis && (t class.CloseParenthesis && (t class.OpenBrace && (t class.CloseBrace && (t class.Comma && (t class.Tilde && (t class.Plus && (t class.Minus && (t class.Star && (t class.Comparison && (t class.Equals && (t class.Reducing && (t class.Declares && (t class.Dots && (t class.Name && (t class.Number && (t class.Widest && (t class.Unknown && (t class.End))))))))))))))))))))))))))))) (both (t class.Fill) (t class.Shape && (t class.Loop && (t class.If && (t class.Let && (t class.Turn && (t class.Protocol && (t class.Call && (t class.Store && (t class.Element && (t class.OpenBracket && (t class.CloseBracket && (t class.OpenParenthesis && (t class.CloseParenthesis && (t class.OpenBrace && (t class.CloseBrace && (t class.Comma && (t class.Tilde && (t class.Plus && (t class.Minus && (t class.Star && (t class.Comparison && (t class.Equals && (t class.Reducing && (t class.Declares && (t class.Dots && (t class.Name && (t class.Number && (t class.Widest && (t class.Unknown && (t class.End)))))))))))))))))))))))))))))) (both (t class.OutOrTmp) (t class.Fill && (t class.Shape && (t class.Loop && (t class.If && (t class.Let && (t class.Turn && (t class.Protocol && (t class.Call && (t class.Store && (t class.Element && (t class.OpenBracket && (t class.CloseBracket && (t class.OpenParenthesis && (t class.CloseParenthesis && (t class.OpenBrace && (t class.CloseBrace && (t class.Comma && (t class.Tilde && (t class.Plus && (t class.Minus && (t class.Star && (t class.Comparison && (t class.Equals && (t class.Reducing && (t class.Declares && (t class.Dots && (t class.Name && (t class.Number && (t class.Widest && (t class.Unknown && (t class.End))))))))))))))))))))))))))))))) (both (t class.In) (t class.OutOrTmp && (t class.Fill && (t class.Shape && (t class.Loop && (t class.If && (t class.Let && (t class.Turn && (t class.Protocol && (t class.Call && (t class.Store && (t class.Element && (t class.OpenBracket && (t class.CloseBracket && (t class.OpenParenthesis && (t class.CloseParenthesis && (t class.OpenBrace && (t class.CloseBrace && (t class.Comma && (t class.Tilde && (t class.Plus && (t class.Minus && (t class.Star && (t class.Comparison && (t class.Equals && (t class.Reducing && (t class.Declares && (t class.Dots && (t class.Name && (t class.Number && (t class.Widest && (t class.Unknown && (t class.End)))))))))))))))))))))))))))))))) h).1).1).1).1).1).1).1).1).1).1).1).1).1).1).1).1).1).0
-at_each t h class.Comma = (both (t class.Comma) (t class.Tilde && (t class.Plus && (t class.Minus && (t class.Star && (t class.Comparison && (t class.Equals && (t class.Reducing && (t class.Declares && (t class.Dots && (t class.Name && (t class.Number && (t class.Widest && (t class.Unknown && (t class.End)))))))))))))) (both (t class.CloseBrace) (t class.Comma && (t class.Tilde && (t class.Plus && (t class.Minus && (t class.Star && (t class.Comparison && (t class.Equals && (t class.Reducing && (t class.Declares && (t class.Dots && (t class.Name && (t class.Number && (t class.Widest && (t class.Unknown && (t class.End))))))))))))))) (both (t class.OpenBrace) (t class.CloseBrace && (t class.Comma && (t class.Tilde && (t class.Plus && (t class.Minus && (t class.Star && (t class.Comparison && (t class.Equals && (t class.Reducing && (t class.Declares && (t class.Dots && (t class.Name && (t class.Number && (t class.Widest && (t class.Unknown && (t class.End)))))))))))))))) (both (t class.CloseParenthesis) (t class.OpenBrace && (t class.CloseBrace && (t class.Comma && (t class.Tilde && (t class.Plus && (t class.Minus && (t class.Star && (t class.Comparison && (t class.Equals && (t class.Reducing && (t class.Declares && (t class.Dots && (t class.Name && (t class.Number && (t class.Widest && (t class.Unknown && (t class.End))))))))))))))))) (both (t class.OpenParenthesis) (t class.CloseParenthesis && (t class.OpenBrace && (t class.CloseBrace && (t class.Comma && (t class.Tilde && (t class.Plus && (t class.Minus && (t class.Star && (t class.Comparison && (t class.Equals && (t class.Reducing && (t class.Declares && (t class.Dots && (t class.Name && (t class.Number && (t class.Widest && (t class.Unknown && (t class.End)))))))))))))))))) (both (t class.CloseBracket) (t class.OpenParenthesis && (t class.CloseParenthesis && (t class.OpenBrace && (t class.CloseBrace && (t class.Comma && (t class.Tilde && (t class.Plus && (t class.Minus && (t class.Star && (t class.Comparison && (t class.Equals && (t class.Reducing && (t class.Declares && (t class.Dots && (t class.Name && (t class.Number && (t class.Widest && (t class.Unknown && (t class.End))))))))))))))))))) (both (t class.OpenBracket) (t class.CloseBracket && (t class.OpenParenthesis && (t class.CloseParenthesis && (t class.OpenBrace && (t class.CloseBrace && (t class.Comma && (t class.Tilde && (t class.Plus && (t class.Minus && (t class.Star && (t class.Comparison && (t class.Equals && (t class.Reducing && (t class.Declares && (t class.Dots && (t class.Name && (t class.Number && (t class.Widest && (t class.Unknown && (t class.End)))))))))))))))))))) (both (t class.Element) (t class.OpenBracket && (t class.CloseBracket && (t class.OpenParenthesis && (t class.CloseParenthesis && (t class.OpenBrace && (t class.CloseBrace && (t class.Comma && (t class.Tilde && (t class.Plus && (t class.Minus && (t class.Star && (t class.Comparison && (t class.Equals && (t class.Reducing && (t class.Declares && (t class.Dots && (t class.Name && (t class.Number && (t class.Widest && (t class.Unknown && (t class.End))))))))))))))))))))) (both (t class.Store) (t class.Element && (t class.OpenBracket && (t class.CloseBracket && (t class.OpenParenthesis && (t class.CloseParenthesis && (t class.OpenBrace && (t class.CloseBrace && (t class.Comma && (t class.Tilde && (t class.Plus && (t class.Minus && (t class.Star && (t class.Comparison && (t class.Equals && (t class.Reducing && (t class.Declares && (t class.Dots && (t class.Name && (t class.Number && (t class.Widest && (t class.Unknown && (t class.End)))))))))))))))))))))) (both (t class.Call) (t class.Store && (t class.Element && (t class.OpenBracket && (t class.CloseBracket && (t class.OpenParenthesis && (t class.CloseParenthesis && (t class.OpenBrace && (t class.CloseBrace && (t class.Comma && (t class.Tilde && (t class.Plus && (t class.Minus && (t class.Star && (t class.Comparison && (t class.Equals && (t class.Reducing && (t class.Declares && (t class.Dots && (t class.Name && (t class.Number && (t class.Widest && (t class.Unknown && (t class.End))))))))))))))))))))))) (both (t class.Protocol) (t class.Call && (t class.Store && (t class.Element && (t class.OpenBracket && (t class.CloseBracket && (t class.OpenParenthesis && (t class.CloseParenthesis && (t class.OpenBrace && (t class.CloseBrace && (t class.Comma && (t class.Tilde && (t class.Plus && (t class.Minus && (t class.Star && (t class.Comparison && (t class.Equals && (t class.Reducing && (t class.Declares && (t class.Dots && (t class.Name && (t class.Number && (t class.Widest && (t class.Unknown && (t class.End)))))))))))))))))))))))) (both (t class.Turn) (t class.Protocol && (t class.Call && (t class.Store && (t class.Element && (t class.OpenBracket && (t class.CloseBracket && (t class.OpenParenthesis && (t class.CloseParenthesis && (t class.OpenBrace && (t class.CloseBrace && (t class.Comma && (t class.Tilde && (t class.Plus && (t class.Minus && (t class.Star && (t class.Comparison && (t class.Equals && (t class.Reducing && (t class.Declares && (t class.Dots && (t class.Name && (t class.Number && (t class.Widest && (t class.Unknown && (t class.End))))))))))))))))))))))))) (both (t class.Let) (t class.Turn && (t class.Protocol && (t class.Call && (t class.Store && (t class.Element && (t class.OpenBracket && (t class.CloseBracket && (t class.OpenParenthesis && (t class.CloseParenthesis && (t class.OpenBrace && (t class.CloseBrace && (t class.Comma && (t class.Tilde && (t class.Plus && (t class.Minus && (t class.Star && (t class.Comparison && (t class.Equals && (t class.Reducing && (t class.Declares && (t class.Dots && (t class.Name && (t class.Number && (t class.Widest && (t class.Unknown && (t class.End)))))))))))))))))))))))))) (both (t class.If) (t class.Let && (t class.Turn && (t class.Protocol && (t class.Call && (t class.Store && (t class.Element && (t class.OpenBracket && (t class.CloseBracket && (t class.OpenParenthesis && (t class.CloseParenthesis && (t class.OpenBrace && (t class.CloseBrace && (t class.Comma && (t class.Tilde && (t class.Plus && (t class.Minus && (t class.Star && (t class.Comparison && (t class.Equals && (t class.Reducing && (t class.Declares && (t class.Dots && (t class.Name && (t class.Number && (t class.Widest && (t class.Unknown && (t class.End))))))))))))))))))))))))))) (both (t class.Loop) (t class.If && (t class.Let && (t class.Turn && (t class.Protocol && (t class.Call && (t class.Store && (t class.Element && (t class.OpenBracket && (t class.CloseBracket && (t class.OpenParenthesis && (t class.CloseParenthesis && (t class.OpenBrace && (t class.CloseBrace && (t class.Comma && (t class.Tilde && (t class.Plus && (t class.Minus && (t class.Star && (t class.Comparison && (t class.Equals && (t class.Reducing && (t class.Declares && (t class.Dots && (t class.Name && (t class.Number && (t class.Widest && (t class.Unknown && (t class.End)))))))))))))))))))))))))))) (both (t class.Shape) (t class.Loop && (t class.If && (t class.Let && (t class.Turn && (t class.Protocol && (t class.Call && (t class.Store && (t class.Element && (t class.OpenBracket && (t class.CloseBracket && (t class.OpenParenthesis && (t class.CloseParenthesis && (t class.OpenBrace && (t class.CloseBrace && (t class.Comma && (t class.Tilde && (t class.Plus && (t class.Minus && (t class.Star && (t class.Comparison && (t class.Equals && (t class.Reducing && (t class.Declares && (t class.Dots && (t class.Name && (t class.Number && (t class.Widest && (t class.Unknown && (t class.End))))))))))))))))))))))))))))) (both (t class.Fill) (t class.Shape && (t class.Loop && (t class.If && (t class.Let && (t class.Turn && (t class.Protocol && (t class.Call && (t class.Store && (t class.Element && (t class.OpenBracket && (t class.CloseBracket && (t class.OpenParenthesis && (t class.CloseParenthesis && (t class.OpenBrace && (t class.CloseBrace && (t class.Comma && (t class.Tilde && (t class.Plus && (t class.Minus && (t class.Star && (t class.Comparison && (t class.Equals && (t class.Reducing && (t class.Declares && (t class.Dots && (t class.Name && (t class.Number && (t class.Widest && (t class.Unknown && (t class.End)))))))))))))))))))))))))))))) (both (t class.OutOrTmp) (t class.Fill && (t class.Shape && (t class.Loop && (t class.If && (t class.Let && (t class.Turn && (t class.Protocol && (t class.Call && (t class.Store && (t class.Element && (t class.OpenBracket && (t class.CloseBracket && (t class.OpenParenthesis && (t class.CloseParenthesis && (t class.OpenBrace && (t class.CloseBrace && (t class.Comma && (t class.Tilde && (t class.Plus && (t class.Minus && (t class.Star && (t class.Comparison && (t class.Equals && (t class.Reducing && (t class.Declares && (t class.Dots && (t class.Name && (t class.Number && (t class.Widest && (t class.Unknown && (t class.End))))))))))))))))))))))))))))))) (both (t class.In) (t class.OutOrTmp && (t class.Fill && (t class.Shape && (t class.Loop && (t class.If && (t class.Let && (t class.Turn && (t class.Protocol && (t class.Call && (t class.Store && (t class.Element && (t class.OpenBracket && (t class.CloseBracket && (t class.OpenParenthesis && (t class.CloseParenthesis && (t class.OpenBrace && (t class.CloseBrace && (t class.Comma && (t class.Tilde && (t class.Plus && (t class.Minus && (t class.Star && (t class.Comparison && (t class.Equals && (t class.Reducing && (t class.Declares && (t class.Dots && (t class.Name && (t class.Number && (t class.Widest && (t class.Unknown && (t class.End)))))))))))))))))))))))))))))))) h).1).1).1).1).1).1).1).1).1).1).1).1).1).1).1).1).1).1).0
-at_each t h class.Tilde = (both (t class.Tilde) (t class.Plus && (t class.Minus && (t class.Star && (t class.Comparison && (t class.Equals && (t class.Reducing && (t class.Declares && (t class.Dots && (t class.Name && (t class.Number && (t class.Widest && (t class.Unknown && (t class.End))))))))))))) (both (t class.Comma) (t class.Tilde && (t class.Plus && (t class.Minus && (t class.Star && (t class.Comparison && (t class.Equals && (t class.Reducing && (t class.Declares && (t class.Dots && (t class.Name && (t class.Number && (t class.Widest && (t class.Unknown && (t class.End)))))))))))))) (both (t class.CloseBrace) (t class.Comma && (t class.Tilde && (t class.Plus && (t class.Minus && (t class.Star && (t class.Comparison && (t class.Equals && (t class.Reducing && (t class.Declares && (t class.Dots && (t class.Name && (t class.Number && (t class.Widest && (t class.Unknown && (t class.End))))))))))))))) (both (t class.OpenBrace) (t class.CloseBrace && (t class.Comma && (t class.Tilde && (t class.Plus && (t class.Minus && (t class.Star && (t class.Comparison && (t class.Equals && (t class.Reducing && (t class.Declares && (t class.Dots && (t class.Name && (t class.Number && (t class.Widest && (t class.Unknown && (t class.End)))))))))))))))) (both (t class.CloseParenthesis) (t class.OpenBrace && (t class.CloseBrace && (t class.Comma && (t class.Tilde && (t class.Plus && (t class.Minus && (t class.Star && (t class.Comparison && (t class.Equals && (t class.Reducing && (t class.Declares && (t class.Dots && (t class.Name && (t class.Number && (t class.Widest && (t class.Unknown && (t class.End))))))))))))))))) (both (t class.OpenParenthesis) (t class.CloseParenthesis && (t class.OpenBrace && (t class.CloseBrace && (t class.Comma && (t class.Tilde && (t class.Plus && (t class.Minus && (t class.Star && (t class.Comparison && (t class.Equals && (t class.Reducing && (t class.Declares && (t class.Dots && (t class.Name && (t class.Number && (t class.Widest && (t class.Unknown && (t class.End)))))))))))))))))) (both (t class.CloseBracket) (t class.OpenParenthesis && (t class.CloseParenthesis && (t class.OpenBrace && (t class.CloseBrace && (t class.Comma && (t class.Tilde && (t class.Plus && (t class.Minus && (t class.Star && (t class.Comparison && (t class.Equals && (t class.Reducing && (t class.Declares && (t class.Dots && (t class.Name && (t class.Number && (t class.Widest && (t class.Unknown && (t class.End))))))))))))))))))) (both (t class.OpenBracket) (t class.CloseBracket && (t class.OpenParenthesis && (t class.CloseParenthesis && (t class.OpenBrace && (t class.CloseBrace && (t class.Comma && (t class.Tilde && (t class.Plus && (t class.Minus && (t class.Star && (t class.Comparison && (t class.Equals && (t class.Reducing && (t class.Declares && (t class.Dots && (t class.Name && (t class.Number && (t class.Widest && (t class.Unknown && (t class.End)))))))))))))))))))) (both (t class.Element) (t class.OpenBracket && (t class.CloseBracket && (t class.OpenParenthesis && (t class.CloseParenthesis && (t class.OpenBrace && (t class.CloseBrace && (t class.Comma && (t class.Tilde && (t class.Plus && (t class.Minus && (t class.Star && (t class.Comparison && (t class.Equals && (t class.Reducing && (t class.Declares && (t class.Dots && (t class.Name && (t class.Number && (t class.Widest && (t class.Unknown && (t class.End))))))))))))))))))))) (both (t class.Store) (t class.Element && (t class.OpenBracket && (t class.CloseBracket && (t class.OpenParenthesis && (t class.CloseParenthesis && (t class.OpenBrace && (t class.CloseBrace && (t class.Comma && (t class.Tilde && (t class.Plus && (t class.Minus && (t class.Star && (t class.Comparison && (t class.Equals && (t class.Reducing && (t class.Declares && (t class.Dots && (t class.Name && (t class.Number && (t class.Widest && (t class.Unknown && (t class.End)))))))))))))))))))))) (both (t class.Call) (t class.Store && (t class.Element && (t class.OpenBracket && (t class.CloseBracket && (t class.OpenParenthesis && (t class.CloseParenthesis && (t class.OpenBrace && (t class.CloseBrace && (t class.Comma && (t class.Tilde && (t class.Plus && (t class.Minus && (t class.Star && (t class.Comparison && (t class.Equals && (t class.Reducing && (t class.Declares && (t class.Dots && (t class.Name && (t class.Number && (t class.Widest && (t class.Unknown && (t class.End))))))))))))))))))))))) (both (t class.Protocol) (t class.Call && (t class.Store && (t class.Element && (t class.OpenBracket && (t class.CloseBracket && (t class.OpenParenthesis && (t class.CloseParenthesis && (t class.OpenBrace && (t class.CloseBrace && (t class.Comma && (t class.Tilde && (t class.Plus && (t class.Minus && (t class.Star && (t class.Comparison && (t class.Equals && (t class.Reducing && (t class.Declares && (t class.Dots && (t class.Name && (t class.Number && (t class.Widest && (t class.Unknown && (t class.End)))))))))))))))))))))))) (both (t class.Turn) (t class.Protocol && (t class.Call && (t class.Store && (t class.Element && (t class.OpenBracket && (t class.CloseBracket && (t class.OpenParenthesis && (t class.CloseParenthesis && (t class.OpenBrace && (t class.CloseBrace && (t class.Comma && (t class.Tilde && (t class.Plus && (t class.Minus && (t class.Star && (t class.Comparison && (t class.Equals && (t class.Reducing && (t class.Declares && (t class.Dots && (t class.Name && (t class.Number && (t class.Widest && (t class.Unknown && (t class.End))))))))))))))))))))))))) (both (t class.Let) (t class.Turn && (t class.Protocol && (t class.Call && (t class.Store && (t class.Element && (t class.OpenBracket && (t class.CloseBracket && (t class.OpenParenthesis && (t class.CloseParenthesis && (t class.OpenBrace && (t class.CloseBrace && (t class.Comma && (t class.Tilde && (t class.Plus && (t class.Minus && (t class.Star && (t class.Comparison && (t class.Equals && (t class.Reducing && (t class.Declares && (t class.Dots && (t class.Name && (t class.Number && (t class.Widest && (t class.Unknown && (t class.End)))))))))))))))))))))))))) (both (t class.If) (t class.Let && (t class.Turn && (t class.Protocol && (t class.Call && (t class.Store && (t class.Element && (t class.OpenBracket && (t class.CloseBracket && (t class.OpenParenthesis && (t class.CloseParenthesis && (t class.OpenBrace && (t class.CloseBrace && (t class.Comma && (t class.Tilde && (t class.Plus && (t class.Minus && (t class.Star && (t class.Comparison && (t class.Equals && (t class.Reducing && (t class.Declares && (t class.Dots && (t class.Name && (t class.Number && (t class.Widest && (t class.Unknown && (t class.End))))))))))))))))))))))))))) (both (t class.Loop) (t class.If && (t class.Let && (t class.Turn && (t class.Protocol && (t class.Call && (t class.Store && (t class.Element && (t class.OpenBracket && (t class.CloseBracket && (t class.OpenParenthesis && (t class.CloseParenthesis && (t class.OpenBrace && (t class.CloseBrace && (t class.Comma && (t class.Tilde && (t class.Plus && (t class.Minus && (t class.Star && (t class.Comparison && (t class.Equals && (t class.Reducing && (t class.Declares && (t class.Dots && (t class.Name && (t class.Number && (t class.Widest && (t class.Unknown && (t class.End)))))))))))))))))))))))))))) (both (t class.Shape) (t class.Loop && (t class.If && (t class.Let && (t class.Turn && (t class.Protocol && (t class.Call && (t class.Store && (t class.Element && (t class.OpenBracket && (t class.CloseBracket && (t class.OpenParenthesis && (t class.CloseParenthesis && (t class.OpenBrace && (t class.CloseBrace && (t class.Comma && (t class.Tilde && (t class.Plus && (t class.Minus && (t class.Star && (t class.Comparison && (t class.Equals && (t class.Reducing && (t class.Declares && (t class.Dots && (t class.Name && (t class.Number && (t class.Widest && (t class.Unknown && (t class.End))))))))))))))))))))))))))))) (both (t class.Fill) (t class.Shape && (t class.Loop && (t class.If && (t class.Let && (t class.Turn && (t class.Protocol && (t class.Call && (t class.Store && (t class.Element && (t class.OpenBracket && (t class.CloseBracket && (t class.OpenParenthesis && (t class.CloseParenthesis && (t class.OpenBrace && (t class.CloseBrace && (t class.Comma && (t class.Tilde && (t class.Plus && (t class.Minus && (t class.Star && (t class.Comparison && (t class.Equals && (t class.Reducing && (t class.Declares && (t class.Dots && (t class.Name && (t class.Number && (t class.Widest && (t class.Unknown && (t class.End)))))))))))))))))))))))))))))) (both (t class.OutOrTmp) (t class.Fill && (t class.Shape && (t class.Loop && (t class.If && (t class.Let && (t class.Turn && (t class.Protocol && (t class.Call && (t class.Store && (t class.Element && (t class.OpenBracket && (t class.CloseBracket && (t class.OpenParenthesis && (t class.CloseParenthesis && (t class.OpenBrace && (t class.CloseBrace && (t class.Comma && (t class.Tilde && (t class.Plus && (t class.Minus && (t class.Star && (t class.Comparison && (t class.Equals && (t class.Reducing && (t class.Declares && (t class.Dots && (t class.Name && (t class.Number && (t class.Widest && (t class.Unknown && (t class.End))))))))))))))))))))))))))))))) (both (t class.In) (t class.OutOrTmp && (t class.Fill && (t class.Shape && (t class.Loop && (t class.If && (t class.Let && (t class.Turn && (t class.Protocol && (t class.Call && (t class.Store && (t class.Element && (t class.OpenBracket && (t class.CloseBracket && (t class.OpenParenthesis && (t class.CloseParenthesis && (t class.OpenBrace && (t class.CloseBrace && (t class.Comma && (t class.Tilde && (t class.Plus && (t class.Minus && (t class.Star && (t class.Comparison && (t class.Equals && (t class.Reducing && (t class.Declares && (t class.Dots && (t class.Name && (t class.Number && (t class.Widest && (t class.Unknown && (t class.End)))))))))))))))))))))))))))))))) h).1).1).1).1).1).1).1).1).1).1).1).1).1).1).1).1).1).1).1).0
-at_each t h class.Plus = (both (t class.Plus) (t class.Minus && (t class.Star && (t class.Comparison && (t class.Equals && (t class.Reducing && (t class.Declares && (t class.Dots && (t class.Name && (t class.Number && (t class.Widest && (t class.Unknown && (t class.End)))))))))))) (both (t class.Tilde) (t class.Plus && (t class.Minus && (t class.Star && (t class.Comparison && (t class.Equals && (t class.Reducing && (t class.Declares && (t class.Dots && (t class.Name && (t class.Number && (t class.Widest && (t class.Unknown && (t class.End))))))))))))) (both (t class.Comma) (t class.Tilde && (t class.Plus && (t class.Minus && (t class.Star && (t class.Comparison && (t class.Equals && (t class.Reducing && (t class.Declares && (t class.Dots && (t class.Name && (t class.Number && (t class.Widest && (t class.Unknown && (t class.End)))))))))))))) (both (t class.CloseBrace) (t class.Comma && (t class.Tilde && (t class.Plus && (t class.Minus && (t class.Star && (t class.Comparison && (t class.Equals && (t class.Reducing && (t class.Declares && (t class.Dots && (t class.Name && (t class.Number && (t class.Widest && (t class.Unknown && (t class.End))))))))))))))) (both (t class.OpenBrace) (t class.CloseBrace && (t class.Comma && (t class.Tilde && (t class.Plus && (t class.Minus && (t class.Star && (t class.Comparison && (t class.Equals && (t class.Reducing && (t class.Declares && (t class.Dots && (t class.Name && (t class.Number && (t class.Widest && (t class.Unknown && (t class.End)))))))))))))))) (both (t class.CloseParenthesis) (t class.OpenBrace && (t class.CloseBrace && (t class.Comma && (t class.Tilde && (t class.Plus && (t class.Minus && (t class.Star && (t class.Comparison && (t class.Equals && (t class.Reducing && (t class.Declares && (t class.Dots && (t class.Name && (t class.Number && (t class.Widest && (t class.Unknown && (t class.End))))))))))))))))) (both (t class.OpenParenthesis) (t class.CloseParenthesis && (t class.OpenBrace && (t class.CloseBrace && (t class.Comma && (t class.Tilde && (t class.Plus && (t class.Minus && (t class.Star && (t class.Comparison && (t class.Equals && (t class.Reducing && (t class.Declares && (t class.Dots && (t class.Name && (t class.Number && (t class.Widest && (t class.Unknown && (t class.End)))))))))))))))))) (both (t class.CloseBracket) (t class.OpenParenthesis && (t class.CloseParenthesis && (t class.OpenBrace && (t class.CloseBrace && (t class.Comma && (t class.Tilde && (t class.Plus && (t class.Minus && (t class.Star && (t class.Comparison && (t class.Equals && (t class.Reducing && (t class.Declares && (t class.Dots && (t class.Name && (t class.Number && (t class.Widest && (t class.Unknown && (t class.End))))))))))))))))))) (both (t class.OpenBracket) (t class.CloseBracket && (t class.OpenParenthesis && (t class.CloseParenthesis && (t class.OpenBrace && (t class.CloseBrace && (t class.Comma && (t class.Tilde && (t class.Plus && (t class.Minus && (t class.Star && (t class.Comparison && (t class.Equals && (t class.Reducing && (t class.Declares && (t class.Dots && (t class.Name && (t class.Number && (t class.Widest && (t class.Unknown && (t class.End)))))))))))))))))))) (both (t class.Element) (t class.OpenBracket && (t class.CloseBracket && (t class.OpenParenthesis && (t class.CloseParenthesis && (t class.OpenBrace && (t class.CloseBrace && (t class.Comma && (t class.Tilde && (t class.Plus && (t class.Minus && (t class.Star && (t class.Comparison && (t class.Equals && (t class.Reducing && (t class.Declares && (t class.Dots && (t class.Name && (t class.Number && (t class.Widest && (t class.Unknown && (t class.End))))))))))))))))))))) (both (t class.Store) (t class.Element && (t class.OpenBracket && (t class.CloseBracket && (t class.OpenParenthesis && (t class.CloseParenthesis && (t class.OpenBrace && (t class.CloseBrace && (t class.Comma && (t class.Tilde && (t class.Plus && (t class.Minus && (t class.Star && (t class.Comparison && (t class.Equals && (t class.Reducing && (t class.Declares && (t class.Dots && (t class.Name && (t class.Number && (t class.Widest && (t class.Unknown && (t class.End)))))))))))))))))))))) (both (t class.Call) (t class.Store && (t class.Element && (t class.OpenBracket && (t class.CloseBracket && (t class.OpenParenthesis && (t class.CloseParenthesis && (t class.OpenBrace && (t class.CloseBrace && (t class.Comma && (t class.Tilde && (t class.Plus && (t class.Minus && (t class.Star && (t class.Comparison && (t class.Equals && (t class.Reducing && (t class.Declares && (t class.Dots && (t class.Name && (t class.Number && (t class.Widest && (t class.Unknown && (t class.End))))))))))))))))))))))) (both (t class.Protocol) (t class.Call && (t class.Store && (t class.Element && (t class.OpenBracket && (t class.CloseBracket && (t class.OpenParenthesis && (t class.CloseParenthesis && (t class.OpenBrace && (t class.CloseBrace && (t class.Comma && (t class.Tilde && (t class.Plus && (t class.Minus && (t class.Star && (t class.Comparison && (t class.Equals && (t class.Reducing && (t class.Declares && (t class.Dots && (t class.Name && (t class.Number && (t class.Widest && (t class.Unknown && (t class.End)))))))))))))))))))))))) (both (t class.Turn) (t class.Protocol && (t class.Call && (t class.Store && (t class.Element && (t class.OpenBracket && (t class.CloseBracket && (t class.OpenParenthesis && (t class.CloseParenthesis && (t class.OpenBrace && (t class.CloseBrace && (t class.Comma && (t class.Tilde && (t class.Plus && (t class.Minus && (t class.Star && (t class.Comparison && (t class.Equals && (t class.Reducing && (t class.Declares && (t class.Dots && (t class.Name && (t class.Number && (t class.Widest && (t class.Unknown && (t class.End))))))))))))))))))))))))) (both (t class.Let) (t class.Turn && (t class.Protocol && (t class.Call && (t class.Store && (t class.Element && (t class.OpenBracket && (t class.CloseBracket && (t class.OpenParenthesis && (t class.CloseParenthesis && (t class.OpenBrace && (t class.CloseBrace && (t class.Comma && (t class.Tilde && (t class.Plus && (t class.Minus && (t class.Star && (t class.Comparison && (t class.Equals && (t class.Reducing && (t class.Declares && (t class.Dots && (t class.Name && (t class.Number && (t class.Widest && (t class.Unknown && (t class.End)))))))))))))))))))))))))) (both (t class.If) (t class.Let && (t class.Turn && (t class.Protocol && (t class.Call && (t class.Store && (t class.Element && (t class.OpenBracket && (t class.CloseBracket && (t class.OpenParenthesis && (t class.CloseParenthesis && (t class.OpenBrace && (t class.CloseBrace && (t class.Comma && (t class.Tilde && (t class.Plus && (t class.Minus && (t class.Star && (t class.Comparison && (t class.Equals && (t class.Reducing && (t class.Declares && (t class.Dots && (t class.Name && (t class.Number && (t class.Widest && (t class.Unknown && (t class.End))))))))))))))))))))))))))) (both (t class.Loop) (t class.If && (t class.Let && (t class.Turn && (t class.Protocol && (t class.Call && (t class.Store && (t class.Element && (t class.OpenBracket && (t class.CloseBracket && (t class.OpenParenthesis && (t class.CloseParenthesis && (t class.OpenBrace && (t class.CloseBrace && (t class.Comma && (t class.Tilde && (t class.Plus && (t class.Minus && (t class.Star && (t class.Comparison && (t class.Equals && (t class.Reducing && (t class.Declares && (t class.Dots && (t class.Name && (t class.Number && (t class.Widest && (t class.Unknown && (t class.End)))))))))))))))))))))))))))) (both (t class.Shape) (t class.Loop && (t class.If && (t class.Let && (t class.Turn && (t class.Protocol && (t class.Call && (t class.Store && (t class.Element && (t class.OpenBracket && (t class.CloseBracket && (t class.OpenParenthesis && (t class.CloseParenthesis && (t class.OpenBrace && (t class.CloseBrace && (t class.Comma && (t class.Tilde && (t class.Plus && (t class.Minus && (t class.Star && (t class.Comparison && (t class.Equals && (t class.Reducing && (t class.Declares && (t class.Dots && (t class.Name && (t class.Number && (t class.Widest && (t class.Unknown && (t class.End))))))))))))))))))))))))))))) (both (t class.Fill) (t class.Shape && (t class.Loop && (t class.If && (t class.Let && (t class.Turn && (t class.Protocol && (t class.Call && (t class.Store && (t class.Element && (t class.OpenBracket && (t class.CloseBracket && (t class.OpenParenthesis && (t class.CloseParenthesis && (t class.OpenBrace && (t class.CloseBrace && (t class.Comma && (t class.Tilde && (t class.Plus && (t class.Minus && (t class.Star && (t class.Comparison && (t class.Equals && (t class.Reducing && (t class.Declares && (t class.Dots && (t class.Name && (t class.Number && (t class.Widest && (t class.Unknown && (t class.End)))))))))))))))))))))))))))))) (both (t class.OutOrTmp) (t class.Fill && (t class.Shape && (t class.Loop && (t class.If && (t class.Let && (t class.Turn && (t class.Protocol && (t class.Call && (t class.Store && (t class.Element && (t class.OpenBracket && (t class.CloseBracket && (t class.OpenParenthesis && (t class.CloseParenthesis && (t class.OpenBrace && (t class.CloseBrace && (t class.Comma && (t class.Tilde && (t class.Plus && (t class.Minus && (t class.Star && (t class.Comparison && (t class.Equals && (t class.Reducing && (t class.Declares && (t class.Dots && (t class.Name && (t class.Number && (t class.Widest && (t class.Unknown && (t class.End))))))))))))))))))))))))))))))) (both (t class.In) (t class.OutOrTmp && (t class.Fill && (t class.Shape && (t class.Loop && (t class.If && (t class.Let && (t class.Turn && (t class.Protocol && (t class.Call && (t class.Store && (t class.Element && (t class.OpenBracket && (t class.CloseBracket && (t class.OpenParenthesis && (t class.CloseParenthesis && (t class.OpenBrace && (t class.CloseBrace && (t class.Comma && (t class.Tilde && (t class.Plus && (t class.Minus && (t class.Star && (t class.Comparison && (t class.Equals && (t class.Reducing && (t class.Declares && (t class.Dots && (t class.Name && (t class.Number && (t class.Widest && (t class.Unknown && (t class.End)))))))))))))))))))))))))))))))) h).1).1).1).1).1).1).1).1).1).1).1).1).1).1).1).1).1).1).1).1).0
-at_each t h class.Minus = (both (t class.Minus) (t class.Star && (t class.Comparison && (t class.Equals && (t class.Reducing && (t class.Declares && (t class.Dots && (t class.Name && (t class.Number && (t class.Widest && (t class.Unknown && (t class.End))))))))))) (both (t class.Plus) (t class.Minus && (t class.Star && (t class.Comparison && (t class.Equals && (t class.Reducing && (t class.Declares && (t class.Dots && (t class.Name && (t class.Number && (t class.Widest && (t class.Unknown && (t class.End)))))))))))) (both (t class.Tilde) (t class.Plus && (t class.Minus && (t class.Star && (t class.Comparison && (t class.Equals && (t class.Reducing && (t class.Declares && (t class.Dots && (t class.Name && (t class.Number && (t class.Widest && (t class.Unknown && (t class.End))))))))))))) (both (t class.Comma) (t class.Tilde && (t class.Plus && (t class.Minus && (t class.Star && (t class.Comparison && (t class.Equals && (t class.Reducing && (t class.Declares && (t class.Dots && (t class.Name && (t class.Number && (t class.Widest && (t class.Unknown && (t class.End)))))))))))))) (both (t class.CloseBrace) (t class.Comma && (t class.Tilde && (t class.Plus && (t class.Minus && (t class.Star && (t class.Comparison && (t class.Equals && (t class.Reducing && (t class.Declares && (t class.Dots && (t class.Name && (t class.Number && (t class.Widest && (t class.Unknown && (t class.End))))))))))))))) (both (t class.OpenBrace) (t class.CloseBrace && (t class.Comma && (t class.Tilde && (t class.Plus && (t class.Minus && (t class.Star && (t class.Comparison && (t class.Equals && (t class.Reducing && (t class.Declares && (t class.Dots && (t class.Name && (t class.Number && (t class.Widest && (t class.Unknown && (t class.End)))))))))))))))) (both (t class.CloseParenthesis) (t class.OpenBrace && (t class.CloseBrace && (t class.Comma && (t class.Tilde && (t class.Plus && (t class.Minus && (t class.Star && (t class.Comparison && (t class.Equals && (t class.Reducing && (t class.Declares && (t class.Dots && (t class.Name && (t class.Number && (t class.Widest && (t class.Unknown && (t class.End))))))))))))))))) (both (t class.OpenParenthesis) (t class.CloseParenthesis && (t class.OpenBrace && (t class.CloseBrace && (t class.Comma && (t class.Tilde && (t class.Plus && (t class.Minus && (t class.Star && (t class.Comparison && (t class.Equals && (t class.Reducing && (t class.Declares && (t class.Dots && (t class.Name && (t class.Number && (t class.Widest && (t class.Unknown && (t class.End)))))))))))))))))) (both (t class.CloseBracket) (t class.OpenParenthesis && (t class.CloseParenthesis && (t class.OpenBrace && (t class.CloseBrace && (t class.Comma && (t class.Tilde && (t class.Plus && (t class.Minus && (t class.Star && (t class.Comparison && (t class.Equals && (t class.Reducing && (t class.Declares && (t class.Dots && (t class.Name && (t class.Number && (t class.Widest && (t class.Unknown && (t class.End))))))))))))))))))) (both (t class.OpenBracket) (t class.CloseBracket && (t class.OpenParenthesis && (t class.CloseParenthesis && (t class.OpenBrace && (t class.CloseBrace && (t class.Comma && (t class.Tilde && (t class.Plus && (t class.Minus && (t class.Star && (t class.Comparison && (t class.Equals && (t class.Reducing && (t class.Declares && (t class.Dots && (t class.Name && (t class.Number && (t class.Widest && (t class.Unknown && (t class.End)))))))))))))))))))) (both (t class.Element) (t class.OpenBracket && (t class.CloseBracket && (t class.OpenParenthesis && (t class.CloseParenthesis && (t class.OpenBrace && (t class.CloseBrace && (t class.Comma && (t class.Tilde && (t class.Plus && (t class.Minus && (t class.Star && (t class.Comparison && (t class.Equals && (t class.Reducing && (t class.Declares && (t class.Dots && (t class.Name && (t class.Number && (t class.Widest && (t class.Unknown && (t class.End))))))))))))))))))))) (both (t class.Store) (t class.Element && (t class.OpenBracket && (t class.CloseBracket && (t class.OpenParenthesis && (t class.CloseParenthesis && (t class.OpenBrace && (t class.CloseBrace && (t class.Comma && (t class.Tilde && (t class.Plus && (t class.Minus && (t class.Star && (t class.Comparison && (t class.Equals && (t class.Reducing && (t class.Declares && (t class.Dots && (t class.Name && (t class.Number && (t class.Widest && (t class.Unknown && (t class.End)))))))))))))))))))))) (both (t class.Call) (t class.Store && (t class.Element && (t class.OpenBracket && (t class.CloseBracket && (t class.OpenParenthesis && (t class.CloseParenthesis && (t class.OpenBrace && (t class.CloseBrace && (t class.Comma && (t class.Tilde && (t class.Plus && (t class.Minus && (t class.Star && (t class.Comparison && (t class.Equals && (t class.Reducing && (t class.Declares && (t class.Dots && (t class.Name && (t class.Number && (t class.Widest && (t class.Unknown && (t class.End))))))))))))))))))))))) (both (t class.Protocol) (t class.Call && (t class.Store && (t class.Element && (t class.OpenBracket && (t class.CloseBracket && (t class.OpenParenthesis && (t class.CloseParenthesis && (t class.OpenBrace && (t class.CloseBrace && (t class.Comma && (t class.Tilde && (t class.Plus && (t class.Minus && (t class.Star && (t class.Comparison && (t class.Equals && (t class.Reducing && (t class.Declares && (t class.Dots && (t class.Name && (t class.Number && (t class.Widest && (t class.Unknown && (t class.End)))))))))))))))))))))))) (both (t class.Turn) (t class.Protocol && (t class.Call && (t class.Store && (t class.Element && (t class.OpenBracket && (t class.CloseBracket && (t class.OpenParenthesis && (t class.CloseParenthesis && (t class.OpenBrace && (t class.CloseBrace && (t class.Comma && (t class.Tilde && (t class.Plus && (t class.Minus && (t class.Star && (t class.Comparison && (t class.Equals && (t class.Reducing && (t class.Declares && (t class.Dots && (t class.Name && (t class.Number && (t class.Widest && (t class.Unknown && (t class.End))))))))))))))))))))))))) (both (t class.Let) (t class.Turn && (t class.Protocol && (t class.Call && (t class.Store && (t class.Element && (t class.OpenBracket && (t class.CloseBracket && (t class.OpenParenthesis && (t class.CloseParenthesis && (t class.OpenBrace && (t class.CloseBrace && (t class.Comma && (t class.Tilde && (t class.Plus && (t class.Minus && (t class.Star && (t class.Comparison && (t class.Equals && (t class.Reducing && (t class.Declares && (t class.Dots && (t class.Name && (t class.Number && (t class.Widest && (t class.Unknown && (t class.End)))))))))))))))))))))))))) (both (t class.If) (t class.Let && (t class.Turn && (t class.Protocol && (t class.Call && (t class.Store && (t class.Element && (t class.OpenBracket && (t class.CloseBracket && (t class.OpenParenthesis && (t class.CloseParenthesis && (t class.OpenBrace && (t class.CloseBrace && (t class.Comma && (t class.Tilde && (t class.Plus && (t class.Minus && (t class.Star && (t class.Comparison && (t class.Equals && (t class.Reducing && (t class.Declares && (t class.Dots && (t class.Name && (t class.Number && (t class.Widest && (t class.Unknown && (t class.End))))))))))))))))))))))))))) (both (t class.Loop) (t class.If && (t class.Let && (t class.Turn && (t class.Protocol && (t class.Call && (t class.Store && (t class.Element && (t class.OpenBracket && (t class.CloseBracket && (t class.OpenParenthesis && (t class.CloseParenthesis && (t class.OpenBrace && (t class.CloseBrace && (t class.Comma && (t class.Tilde && (t class.Plus && (t class.Minus && (t class.Star && (t class.Comparison && (t class.Equals && (t class.Reducing && (t class.Declares && (t class.Dots && (t class.Name && (t class.Number && (t class.Widest && (t class.Unknown && (t class.End)))))))))))))))))))))))))))) (both (t class.Shape) (t class.Loop && (t class.If && (t class.Let && (t class.Turn && (t class.Protocol && (t class.Call && (t class.Store && (t class.Element && (t class.OpenBracket && (t class.CloseBracket && (t class.OpenParenthesis && (t class.CloseParenthesis && (t class.OpenBrace && (t class.CloseBrace && (t class.Comma && (t class.Tilde && (t class.Plus && (t class.Minus && (t class.Star && (t class.Comparison && (t class.Equals && (t class.Reducing && (t class.Declares && (t class.Dots && (t class.Name && (t class.Number && (t class.Widest && (t class.Unknown && (t class.End))))))))))))))))))))))))))))) (both (t class.Fill) (t class.Shape && (t class.Loop && (t class.If && (t class.Let && (t class.Turn && (t class.Protocol && (t class.Call && (t class.Store && (t class.Element && (t class.OpenBracket && (t class.CloseBracket && (t class.OpenParenthesis && (t class.CloseParenthesis && (t class.OpenBrace && (t class.CloseBrace && (t class.Comma && (t class.Tilde && (t class.Plus && (t class.Minus && (t class.Star && (t class.Comparison && (t class.Equals && (t class.Reducing && (t class.Declares && (t class.Dots && (t class.Name && (t class.Number && (t class.Widest && (t class.Unknown && (t class.End)))))))))))))))))))))))))))))) (both (t class.OutOrTmp) (t class.Fill && (t class.Shape && (t class.Loop && (t class.If && (t class.Let && (t class.Turn && (t class.Protocol && (t class.Call && (t class.Store && (t class.Element && (t class.OpenBracket && (t class.CloseBracket && (t class.OpenParenthesis && (t class.CloseParenthesis && (t class.OpenBrace && (t class.CloseBrace && (t class.Comma && (t class.Tilde && (t class.Plus && (t class.Minus && (t class.Star && (t class.Comparison && (t class.Equals && (t class.Reducing && (t class.Declares && (t class.Dots && (t class.Name && (t class.Number && (t class.Widest && (t class.Unknown && (t class.End))))))))))))))))))))))))))))))) (both (t class.In) (t class.OutOrTmp && (t class.Fill && (t class.Shape && (t class.Loop && (t class.If && (t class.Let && (t class.Turn && (t class.Protocol && (t class.Call && (t class.Store && (t class.Element && (t class.OpenBracket && (t class.CloseBracket && (t class.OpenParenthesis && (t class.CloseParenthesis && (t class.OpenBrace && (t class.CloseBrace && (t class.Comma && (t class.Tilde && (t class.Plus && (t class.Minus && (t class.Star && (t class.Comparison && (t class.Equals && (t class.Reducing && (t class.Declares && (t class.Dots && (t class.Name && (t class.Number && (t class.Widest && (t class.Unknown && (t class.End)))))))))))))))))))))))))))))))) h).1).1).1).1).1).1).1).1).1).1).1).1).1).1).1).1).1).1).1).1).1).0
-at_each t h class.Star = (both (t class.Star) (t class.Comparison && (t class.Equals && (t class.Reducing && (t class.Declares && (t class.Dots && (t class.Name && (t class.Number && (t class.Widest && (t class.Unknown && (t class.End)))))))))) (both (t class.Minus) (t class.Star && (t class.Comparison && (t class.Equals && (t class.Reducing && (t class.Declares && (t class.Dots && (t class.Name && (t class.Number && (t class.Widest && (t class.Unknown && (t class.End))))))))))) (both (t class.Plus) (t class.Minus && (t class.Star && (t class.Comparison && (t class.Equals && (t class.Reducing && (t class.Declares && (t class.Dots && (t class.Name && (t class.Number && (t class.Widest && (t class.Unknown && (t class.End)))))))))))) (both (t class.Tilde) (t class.Plus && (t class.Minus && (t class.Star && (t class.Comparison && (t class.Equals && (t class.Reducing && (t class.Declares && (t class.Dots && (t class.Name && (t class.Number && (t class.Widest && (t class.Unknown && (t class.End))))))))))))) (both (t class.Comma) (t class.Tilde && (t class.Plus && (t class.Minus && (t class.Star && (t class.Comparison && (t class.Equals && (t class.Reducing && (t class.Declares && (t class.Dots && (t class.Name && (t class.Number && (t class.Widest && (t class.Unknown && (t class.End)))))))))))))) (both (t class.CloseBrace) (t class.Comma && (t class.Tilde && (t class.Plus && (t class.Minus && (t class.Star && (t class.Comparison && (t class.Equals && (t class.Reducing && (t class.Declares && (t class.Dots && (t class.Name && (t class.Number && (t class.Widest && (t class.Unknown && (t class.End))))))))))))))) (both (t class.OpenBrace) (t class.CloseBrace && (t class.Comma && (t class.Tilde && (t class.Plus && (t class.Minus && (t class.Star && (t class.Comparison && (t class.Equals && (t class.Reducing && (t class.Declares && (t class.Dots && (t class.Name && (t class.Number && (t class.Widest && (t class.Unknown && (t class.End)))))))))))))))) (both (t class.CloseParenthesis) (t class.OpenBrace && (t class.CloseBrace && (t class.Comma && (t class.Tilde && (t class.Plus && (t class.Minus && (t class.Star && (t class.Comparison && (t class.Equals && (t class.Reducing && (t class.Declares && (t class.Dots && (t class.Name && (t class.Number && (t class.Widest && (t class.Unknown && (t class.End))))))))))))))))) (both (t class.OpenParenthesis) (t class.CloseParenthesis && (t class.OpenBrace && (t class.CloseBrace && (t class.Comma && (t class.Tilde && (t class.Plus && (t class.Minus && (t class.Star && (t class.Comparison && (t class.Equals && (t class.Reducing && (t class.Declares && (t class.Dots && (t class.Name && (t class.Number && (t class.Widest && (t class.Unknown && (t class.End)))))))))))))))))) (both (t class.CloseBracket) (t class.OpenParenthesis && (t class.CloseParenthesis && (t class.OpenBrace && (t class.CloseBrace && (t class.Comma && (t class.Tilde && (t class.Plus && (t class.Minus && (t class.Star && (t class.Comparison && (t class.Equals && (t class.Reducing && (t class.Declares && (t class.Dots && (t class.Name && (t class.Number && (t class.Widest && (t class.Unknown && (t class.End))))))))))))))))))) (both (t class.OpenBracket) (t class.CloseBracket && (t class.OpenParenthesis && (t class.CloseParenthesis && (t class.OpenBrace && (t class.CloseBrace && (t class.Comma && (t class.Tilde && (t class.Plus && (t class.Minus && (t class.Star && (t class.Comparison && (t class.Equals && (t class.Reducing && (t class.Declares && (t class.Dots && (t class.Name && (t class.Number && (t class.Widest && (t class.Unknown && (t class.End)))))))))))))))))))) (both (t class.Element) (t class.OpenBracket && (t class.CloseBracket && (t class.OpenParenthesis && (t class.CloseParenthesis && (t class.OpenBrace && (t class.CloseBrace && (t class.Comma && (t class.Tilde && (t class.Plus && (t class.Minus && (t class.Star && (t class.Comparison && (t class.Equals && (t class.Reducing && (t class.Declares && (t class.Dots && (t class.Name && (t class.Number && (t class.Widest && (t class.Unknown && (t class.End))))))))))))))))))))) (both (t class.Store) (t class.Element && (t class.OpenBracket && (t class.CloseBracket && (t class.OpenParenthesis && (t class.CloseParenthesis && (t class.OpenBrace && (t class.CloseBrace && (t class.Comma && (t class.Tilde && (t class.Plus && (t class.Minus && (t class.Star && (t class.Comparison && (t class.Equals && (t class.Reducing && (t class.Declares && (t class.Dots && (t class.Name && (t class.Number && (t class.Widest && (t class.Unknown && (t class.End)))))))))))))))))))))) (both (t class.Call) (t class.Store && (t class.Element && (t class.OpenBracket && (t class.CloseBracket && (t class.OpenParenthesis && (t class.CloseParenthesis && (t class.OpenBrace && (t class.CloseBrace && (t class.Comma && (t class.Tilde && (t class.Plus && (t class.Minus && (t class.Star && (t class.Comparison && (t class.Equals && (t class.Reducing && (t class.Declares && (t class.Dots && (t class.Name && (t class.Number && (t class.Widest && (t class.Unknown && (t class.End))))))))))))))))))))))) (both (t class.Protocol) (t class.Call && (t class.Store && (t class.Element && (t class.OpenBracket && (t class.CloseBracket && (t class.OpenParenthesis && (t class.CloseParenthesis && (t class.OpenBrace && (t class.CloseBrace && (t class.Comma && (t class.Tilde && (t class.Plus && (t class.Minus && (t class.Star && (t class.Comparison && (t class.Equals && (t class.Reducing && (t class.Declares && (t class.Dots && (t class.Name && (t class.Number && (t class.Widest && (t class.Unknown && (t class.End)))))))))))))))))))))))) (both (t class.Turn) (t class.Protocol && (t class.Call && (t class.Store && (t class.Element && (t class.OpenBracket && (t class.CloseBracket && (t class.OpenParenthesis && (t class.CloseParenthesis && (t class.OpenBrace && (t class.CloseBrace && (t class.Comma && (t class.Tilde && (t class.Plus && (t class.Minus && (t class.Star && (t class.Comparison && (t class.Equals && (t class.Reducing && (t class.Declares && (t class.Dots && (t class.Name && (t class.Number && (t class.Widest && (t class.Unknown && (t class.End))))))))))))))))))))))))) (both (t class.Let) (t class.Turn && (t class.Protocol && (t class.Call && (t class.Store && (t class.Element && (t class.OpenBracket && (t class.CloseBracket && (t class.OpenParenthesis && (t class.CloseParenthesis && (t class.OpenBrace && (t class.CloseBrace && (t class.Comma && (t class.Tilde && (t class.Plus && (t class.Minus && (t class.Star && (t class.Comparison && (t class.Equals && (t class.Reducing && (t class.Declares && (t class.Dots && (t class.Name && (t class.Number && (t class.Widest && (t class.Unknown && (t class.End)))))))))))))))))))))))))) (both (t class.If) (t class.Let && (t class.Turn && (t class.Protocol && (t class.Call && (t class.Store && (t class.Element && (t class.OpenBracket && (t class.CloseBracket && (t class.OpenParenthesis && (t class.CloseParenthesis && (t class.OpenBrace && (t class.CloseBrace && (t class.Comma && (t class.Tilde && (t class.Plus && (t class.Minus && (t class.Star && (t class.Comparison && (t class.Equals && (t class.Reducing && (t class.Declares && (t class.Dots && (t class.Name && (t class.Number && (t class.Widest && (t class.Unknown && (t class.End))))))))))))))))))))))))))) (both (t class.Loop) (t class.If && (t class.Let && (t class.Turn && (t class.Protocol && (t class.Call && (t class.Store && (t class.Element && (t class.OpenBracket && (t class.CloseBracket && (t class.OpenParenthesis && (t class.CloseParenthesis && (t class.OpenBrace && (t class.CloseBrace && (t class.Comma && (t class.Tilde && (t class.Plus && (t class.Minus && (t class.Star && (t class.Comparison && (t class.Equals && (t class.Reducing && (t class.Declares && (t class.Dots && (t class.Name && (t class.Number && (t class.Widest && (t class.Unknown && (t class.End)))))))))))))))))))))))))))) (both (t class.Shape) (t class.Loop && (t class.If && (t class.Let && (t class.Turn && (t class.Protocol && (t class.Call && (t class.Store && (t class.Element && (t class.OpenBracket && (t class.CloseBracket && (t class.OpenParenthesis && (t class.CloseParenthesis && (t class.OpenBrace && (t class.CloseBrace && (t class.Comma && (t class.Tilde && (t class.Plus && (t class.Minus && (t class.Star && (t class.Comparison && (t class.Equals && (t class.Reducing && (t class.Declares && (t class.Dots && (t class.Name && (t class.Number && (t class.Widest && (t class.Unknown && (t class.End))))))))))))))))))))))))))))) (both (t class.Fill) (t class.Shape && (t class.Loop && (t class.If && (t class.Let && (t class.Turn && (t class.Protocol && (t class.Call && (t class.Store && (t class.Element && (t class.OpenBracket && (t class.CloseBracket && (t class.OpenParenthesis && (t class.CloseParenthesis && (t class.OpenBrace && (t class.CloseBrace && (t class.Comma && (t class.Tilde && (t class.Plus && (t class.Minus && (t class.Star && (t class.Comparison && (t class.Equals && (t class.Reducing && (t class.Declares && (t class.Dots && (t class.Name && (t class.Number && (t class.Widest && (t class.Unknown && (t class.End)))))))))))))))))))))))))))))) (both (t class.OutOrTmp) (t class.Fill && (t class.Shape && (t class.Loop && (t class.If && (t class.Let && (t class.Turn && (t class.Protocol && (t class.Call && (t class.Store && (t class.Element && (t class.OpenBracket && (t class.CloseBracket && (t class.OpenParenthesis && (t class.CloseParenthesis && (t class.OpenBrace && (t class.CloseBrace && (t class.Comma && (t class.Tilde && (t class.Plus && (t class.Minus && (t class.Star && (t class.Comparison && (t class.Equals && (t class.Reducing && (t class.Declares && (t class.Dots && (t class.Name && (t class.Number && (t class.Widest && (t class.Unknown && (t class.End))))))))))))))))))))))))))))))) (both (t class.In) (t class.OutOrTmp && (t class.Fill && (t class.Shape && (t class.Loop && (t class.If && (t class.Let && (t class.Turn && (t class.Protocol && (t class.Call && (t class.Store && (t class.Element && (t class.OpenBracket && (t class.CloseBracket && (t class.OpenParenthesis && (t class.CloseParenthesis && (t class.OpenBrace && (t class.CloseBrace && (t class.Comma && (t class.Tilde && (t class.Plus && (t class.Minus && (t class.Star && (t class.Comparison && (t class.Equals && (t class.Reducing && (t class.Declares && (t class.Dots && (t class.Name && (t class.Number && (t class.Widest && (t class.Unknown && (t class.End)))))))))))))))))))))))))))))))) h).1).1).1).1).1).1).1).1).1).1).1).1).1).1).1).1).1).1).1).1).1).1).0
-at_each t h class.Comparison = (both (t class.Comparison) (t class.Equals && (t class.Reducing && (t class.Declares && (t class.Dots && (t class.Name && (t class.Number && (t class.Widest && (t class.Unknown && (t class.End))))))))) (both (t class.Star) (t class.Comparison && (t class.Equals && (t class.Reducing && (t class.Declares && (t class.Dots && (t class.Name && (t class.Number && (t class.Widest && (t class.Unknown && (t class.End)))))))))) (both (t class.Minus) (t class.Star && (t class.Comparison && (t class.Equals && (t class.Reducing && (t class.Declares && (t class.Dots && (t class.Name && (t class.Number && (t class.Widest && (t class.Unknown && (t class.End))))))))))) (both (t class.Plus) (t class.Minus && (t class.Star && (t class.Comparison && (t class.Equals && (t class.Reducing && (t class.Declares && (t class.Dots && (t class.Name && (t class.Number && (t class.Widest && (t class.Unknown && (t class.End)))))))))))) (both (t class.Tilde) (t class.Plus && (t class.Minus && (t class.Star && (t class.Comparison && (t class.Equals && (t class.Reducing && (t class.Declares && (t class.Dots && (t class.Name && (t class.Number && (t class.Widest && (t class.Unknown && (t class.End))))))))))))) (both (t class.Comma) (t class.Tilde && (t class.Plus && (t class.Minus && (t class.Star && (t class.Comparison && (t class.Equals && (t class.Reducing && (t class.Declares && (t class.Dots && (t class.Name && (t class.Number && (t class.Widest && (t class.Unknown && (t class.End)))))))))))))) (both (t class.CloseBrace) (t class.Comma && (t class.Tilde && (t class.Plus && (t class.Minus && (t class.Star && (t class.Comparison && (t class.Equals && (t class.Reducing && (t class.Declares && (t class.Dots && (t class.Name && (t class.Number && (t class.Widest && (t class.Unknown && (t class.End))))))))))))))) (both (t class.OpenBrace) (t class.CloseBrace && (t class.Comma && (t class.Tilde && (t class.Plus && (t class.Minus && (t class.Star && (t class.Comparison && (t class.Equals && (t class.Reducing && (t class.Declares && (t class.Dots && (t class.Name && (t class.Number && (t class.Widest && (t class.Unknown && (t class.End)))))))))))))))) (both (t class.CloseParenthesis) (t class.OpenBrace && (t class.CloseBrace && (t class.Comma && (t class.Tilde && (t class.Plus && (t class.Minus && (t class.Star && (t class.Comparison && (t class.Equals && (t class.Reducing && (t class.Declares && (t class.Dots && (t class.Name && (t class.Number && (t class.Widest && (t class.Unknown && (t class.End))))))))))))))))) (both (t class.OpenParenthesis) (t class.CloseParenthesis && (t class.OpenBrace && (t class.CloseBrace && (t class.Comma && (t class.Tilde && (t class.Plus && (t class.Minus && (t class.Star && (t class.Comparison && (t class.Equals && (t class.Reducing && (t class.Declares && (t class.Dots && (t class.Name && (t class.Number && (t class.Widest && (t class.Unknown && (t class.End)))))))))))))))))) (both (t class.CloseBracket) (t class.OpenParenthesis && (t class.CloseParenthesis && (t class.OpenBrace && (t class.CloseBrace && (t class.Comma && (t class.Tilde && (t class.Plus && (t class.Minus && (t class.Star && (t class.Comparison && (t class.Equals && (t class.Reducing && (t class.Declares && (t class.Dots && (t class.Name && (t class.Number && (t class.Widest && (t class.Unknown && (t class.End))))))))))))))))))) (both (t class.OpenBracket) (t class.CloseBracket && (t class.OpenParenthesis && (t class.CloseParenthesis && (t class.OpenBrace && (t class.CloseBrace && (t class.Comma && (t class.Tilde && (t class.Plus && (t class.Minus && (t class.Star && (t class.Comparison && (t class.Equals && (t class.Reducing && (t class.Declares && (t class.Dots && (t class.Name && (t class.Number && (t class.Widest && (t class.Unknown && (t class.End)))))))))))))))))))) (both (t class.Element) (t class.OpenBracket && (t class.CloseBracket && (t class.OpenParenthesis && (t class.CloseParenthesis && (t class.OpenBrace && (t class.CloseBrace && (t class.Comma && (t class.Tilde && (t class.Plus && (t class.Minus && (t class.Star && (t class.Comparison && (t class.Equals && (t class.Reducing && (t class.Declares && (t class.Dots && (t class.Name && (t class.Number && (t class.Widest && (t class.Unknown && (t class.End))))))))))))))))))))) (both (t class.Store) (t class.Element && (t class.OpenBracket && (t class.CloseBracket && (t class.OpenParenthesis && (t class.CloseParenthesis && (t class.OpenBrace && (t class.CloseBrace && (t class.Comma && (t class.Tilde && (t class.Plus && (t class.Minus && (t class.Star && (t class.Comparison && (t class.Equals && (t class.Reducing && (t class.Declares && (t class.Dots && (t class.Name && (t class.Number && (t class.Widest && (t class.Unknown && (t class.End)))))))))))))))))))))) (both (t class.Call) (t class.Store && (t class.Element && (t class.OpenBracket && (t class.CloseBracket && (t class.OpenParenthesis && (t class.CloseParenthesis && (t class.OpenBrace && (t class.CloseBrace && (t class.Comma && (t class.Tilde && (t class.Plus && (t class.Minus && (t class.Star && (t class.Comparison && (t class.Equals && (t class.Reducing && (t class.Declares && (t class.Dots && (t class.Name && (t class.Number && (t class.Widest && (t class.Unknown && (t class.End))))))))))))))))))))))) (both (t class.Protocol) (t class.Call && (t class.Store && (t class.Element && (t class.OpenBracket && (t class.CloseBracket && (t class.OpenParenthesis && (t class.CloseParenthesis && (t class.OpenBrace && (t class.CloseBrace && (t class.Comma && (t class.Tilde && (t class.Plus && (t class.Minus && (t class.Star && (t class.Comparison && (t class.Equals && (t class.Reducing && (t class.Declares && (t class.Dots && (t class.Name && (t class.Number && (t class.Widest && (t class.Unknown && (t class.End)))))))))))))))))))))))) (both (t class.Turn) (t class.Protocol && (t class.Call && (t class.Store && (t class.Element && (t class.OpenBracket && (t class.CloseBracket && (t class.OpenParenthesis && (t class.CloseParenthesis && (t class.OpenBrace && (t class.CloseBrace && (t class.Comma && (t class.Tilde && (t class.Plus && (t class.Minus && (t class.Star && (t class.Comparison && (t class.Equals && (t class.Reducing && (t class.Declares && (t class.Dots && (t class.Name && (t class.Number && (t class.Widest && (t class.Unknown && (t class.End))))))))))))))))))))))))) (both (t class.Let) (t class.Turn && (t class.Protocol && (t class.Call && (t class.Store && (t class.Element && (t class.OpenBracket && (t class.CloseBracket && (t class.OpenParenthesis && (t class.CloseParenthesis && (t class.OpenBrace && (t class.CloseBrace && (t class.Comma && (t class.Tilde && (t class.Plus && (t class.Minus && (t class.Star && (t class.Comparison && (t class.Equals && (t class.Reducing && (t class.Declares && (t class.Dots && (t class.Name && (t class.Number && (t class.Widest && (t class.Unknown && (t class.End)))))))))))))))))))))))))) (both (t class.If) (t class.Let && (t class.Turn && (t class.Protocol && (t class.Call && (t class.Store && (t class.Element && (t class.OpenBracket && (t class.CloseBracket && (t class.OpenParenthesis && (t class.CloseParenthesis && (t class.OpenBrace && (t class.CloseBrace && (t class.Comma && (t class.Tilde && (t class.Plus && (t class.Minus && (t class.Star && (t class.Comparison && (t class.Equals && (t class.Reducing && (t class.Declares && (t class.Dots && (t class.Name && (t class.Number && (t class.Widest && (t class.Unknown && (t class.End))))))))))))))))))))))))))) (both (t class.Loop) (t class.If && (t class.Let && (t class.Turn && (t class.Protocol && (t class.Call && (t class.Store && (t class.Element && (t class.OpenBracket && (t class.CloseBracket && (t class.OpenParenthesis && (t class.CloseParenthesis && (t class.OpenBrace && (t class.CloseBrace && (t class.Comma && (t class.Tilde && (t class.Plus && (t class.Minus && (t class.Star && (t class.Comparison && (t class.Equals && (t class.Reducing && (t class.Declares && (t class.Dots && (t class.Name && (t class.Number && (t class.Widest && (t class.Unknown && (t class.End)))))))))))))))))))))))))))) (both (t class.Shape) (t class.Loop && (t class.If && (t class.Let && (t class.Turn && (t class.Protocol && (t class.Call && (t class.Store && (t class.Element && (t class.OpenBracket && (t class.CloseBracket && (t class.OpenParenthesis && (t class.CloseParenthesis && (t class.OpenBrace && (t class.CloseBrace && (t class.Comma && (t class.Tilde && (t class.Plus && (t class.Minus && (t class.Star && (t class.Comparison && (t class.Equals && (t class.Reducing && (t class.Declares && (t class.Dots && (t class.Name && (t class.Number && (t class.Widest && (t class.Unknown && (t class.End))))))))))))))))))))))))))))) (both (t class.Fill) (t class.Shape && (t class.Loop && (t class.If && (t class.Let && (t class.Turn && (t class.Protocol && (t class.Call && (t class.Store && (t class.Element && (t class.OpenBracket && (t class.CloseBracket && (t class.OpenParenthesis && (t class.CloseParenthesis && (t class.OpenBrace && (t class.CloseBrace && (t class.Comma && (t class.Tilde && (t class.Plus && (t class.Minus && (t class.Star && (t class.Comparison && (t class.Equals && (t class.Reducing && (t class.Declares && (t class.Dots && (t class.Name && (t class.Number && (t class.Widest && (t class.Unknown && (t class.End)))))))))))))))))))))))))))))) (both (t class.OutOrTmp) (t class.Fill && (t class.Shape && (t class.Loop && (t class.If && (t class.Let && (t class.Turn && (t class.Protocol && (t class.Call && (t class.Store && (t class.Element && (t class.OpenBracket && (t class.CloseBracket && (t class.OpenParenthesis && (t class.CloseParenthesis && (t class.OpenBrace && (t class.CloseBrace && (t class.Comma && (t class.Tilde && (t class.Plus && (t class.Minus && (t class.Star && (t class.Comparison && (t class.Equals && (t class.Reducing && (t class.Declares && (t class.Dots && (t class.Name && (t class.Number && (t class.Widest && (t class.Unknown && (t class.End))))))))))))))))))))))))))))))) (both (t class.In) (t class.OutOrTmp && (t class.Fill && (t class.Shape && (t class.Loop && (t class.If && (t class.Let && (t class.Turn && (t class.Protocol && (t class.Call && (t class.Store && (t class.Element && (t class.OpenBracket && (t class.CloseBracket && (t class.OpenParenthesis && (t class.CloseParenthesis && (t class.OpenBrace && (t class.CloseBrace && (t class.Comma && (t class.Tilde && (t class.Plus && (t class.Minus && (t class.Star && (t class.Comparison && (t class.Equals && (t class.Reducing && (t class.Declares && (t class.Dots && (t class.Name && (t class.Number && (t class.Widest && (t class.Unknown && (t class.End)))))))))))))))))))))))))))))))) h).1).1).1).1).1).1).1).1).1).1).1).1).1).1).1).1).1).1).1).1).1).1).1).0
-at_each t h class.Equals = (both (t class.Equals) (t class.Reducing && (t class.Declares && (t class.Dots && (t class.Name && (t class.Number && (t class.Widest && (t class.Unknown && (t class.End)))))))) (both (t class.Comparison) (t class.Equals && (t class.Reducing && (t class.Declares && (t class.Dots && (t class.Name && (t class.Number && (t class.Widest && (t class.Unknown && (t class.End))))))))) (both (t class.Star) (t class.Comparison && (t class.Equals && (t class.Reducing && (t class.Declares && (t class.Dots && (t class.Name && (t class.Number && (t class.Widest && (t class.Unknown && (t class.End)))))))))) (both (t class.Minus) (t class.Star && (t class.Comparison && (t class.Equals && (t class.Reducing && (t class.Declares && (t class.Dots && (t class.Name && (t class.Number && (t class.Widest && (t class.Unknown && (t class.End))))))))))) (both (t class.Plus) (t class.Minus && (t class.Star && (t class.Comparison && (t class.Equals && (t class.Reducing && (t class.Declares && (t class.Dots && (t class.Name && (t class.Number && (t class.Widest && (t class.Unknown && (t class.End)))))))))))) (both (t class.Tilde) (t class.Plus && (t class.Minus && (t class.Star && (t class.Comparison && (t class.Equals && (t class.Reducing && (t class.Declares && (t class.Dots && (t class.Name && (t class.Number && (t class.Widest && (t class.Unknown && (t class.End))))))))))))) (both (t class.Comma) (t class.Tilde && (t class.Plus && (t class.Minus && (t class.Star && (t class.Comparison && (t class.Equals && (t class.Reducing && (t class.Declares && (t class.Dots && (t class.Name && (t class.Number && (t class.Widest && (t class.Unknown && (t class.End)))))))))))))) (both (t class.CloseBrace) (t class.Comma && (t class.Tilde && (t class.Plus && (t class.Minus && (t class.Star && (t class.Comparison && (t class.Equals && (t class.Reducing && (t class.Declares && (t class.Dots && (t class.Name && (t class.Number && (t class.Widest && (t class.Unknown && (t class.End))))))))))))))) (both (t class.OpenBrace) (t class.CloseBrace && (t class.Comma && (t class.Tilde && (t class.Plus && (t class.Minus && (t class.Star && (t class.Comparison && (t class.Equals && (t class.Reducing && (t class.Declares && (t class.Dots && (t class.Name && (t class.Number && (t class.Widest && (t class.Unknown && (t class.End)))))))))))))))) (both (t class.CloseParenthesis) (t class.OpenBrace && (t class.CloseBrace && (t class.Comma && (t class.Tilde && (t class.Plus && (t class.Minus && (t class.Star && (t class.Comparison && (t class.Equals && (t class.Reducing && (t class.Declares && (t class.Dots && (t class.Name && (t class.Number && (t class.Widest && (t class.Unknown && (t class.End))))))))))))))))) (both (t class.OpenParenthesis) (t class.CloseParenthesis && (t class.OpenBrace && (t class.CloseBrace && (t class.Comma && (t class.Tilde && (t class.Plus && (t class.Minus && (t class.Star && (t class.Comparison && (t class.Equals && (t class.Reducing && (t class.Declares && (t class.Dots && (t class.Name && (t class.Number && (t class.Widest && (t class.Unknown && (t class.End)))))))))))))))))) (both (t class.CloseBracket) (t class.OpenParenthesis && (t class.CloseParenthesis && (t class.OpenBrace && (t class.CloseBrace && (t class.Comma && (t class.Tilde && (t class.Plus && (t class.Minus && (t class.Star && (t class.Comparison && (t class.Equals && (t class.Reducing && (t class.Declares && (t class.Dots && (t class.Name && (t class.Number && (t class.Widest && (t class.Unknown && (t class.End))))))))))))))))))) (both (t class.OpenBracket) (t class.CloseBracket && (t class.OpenParenthesis && (t class.CloseParenthesis && (t class.OpenBrace && (t class.CloseBrace && (t class.Comma && (t class.Tilde && (t class.Plus && (t class.Minus && (t class.Star && (t class.Comparison && (t class.Equals && (t class.Reducing && (t class.Declares && (t class.Dots && (t class.Name && (t class.Number && (t class.Widest && (t class.Unknown && (t class.End)))))))))))))))))))) (both (t class.Element) (t class.OpenBracket && (t class.CloseBracket && (t class.OpenParenthesis && (t class.CloseParenthesis && (t class.OpenBrace && (t class.CloseBrace && (t class.Comma && (t class.Tilde && (t class.Plus && (t class.Minus && (t class.Star && (t class.Comparison && (t class.Equals && (t class.Reducing && (t class.Declares && (t class.Dots && (t class.Name && (t class.Number && (t class.Widest && (t class.Unknown && (t class.End))))))))))))))))))))) (both (t class.Store) (t class.Element && (t class.OpenBracket && (t class.CloseBracket && (t class.OpenParenthesis && (t class.CloseParenthesis && (t class.OpenBrace && (t class.CloseBrace && (t class.Comma && (t class.Tilde && (t class.Plus && (t class.Minus && (t class.Star && (t class.Comparison && (t class.Equals && (t class.Reducing && (t class.Declares && (t class.Dots && (t class.Name && (t class.Number && (t class.Widest && (t class.Unknown && (t class.End)))))))))))))))))))))) (both (t class.Call) (t class.Store && (t class.Element && (t class.OpenBracket && (t class.CloseBracket && (t class.OpenParenthesis && (t class.CloseParenthesis && (t class.OpenBrace && (t class.CloseBrace && (t class.Comma && (t class.Tilde && (t class.Plus && (t class.Minus && (t class.Star && (t class.Comparison && (t class.Equals && (t class.Reducing && (t class.Declares && (t class.Dots && (t class.Name && (t class.Number && (t class.Widest && (t class.Unknown && (t class.End))))))))))))))))))))))) (both (t class.Protocol) (t class.Call && (t class.Store && (t class.Element && (t class.OpenBracket && (t class.CloseBracket && (t class.OpenParenthesis && (t class.CloseParenthesis && (t class.OpenBrace && (t class.CloseBrace && (t class.Comma && (t class.Tilde && (t class.Plus && (t class.Minus && (t class.Star && (t class.Comparison && (t class.Equals && (t class.Reducing && (t class.Declares && (t class.Dots && (t class.Name && (t class.Number && (t class.Widest && (t class.Unknown && (t class.End)))))))))))))))))))))))) (both (t class.Turn) (t class.Protocol && (t class.Call && (t class.Store && (t class.Element && (t class.OpenBracket && (t class.CloseBracket && (t class.OpenParenthesis && (t class.CloseParenthesis && (t class.OpenBrace && (t class.CloseBrace && (t class.Comma && (t class.Tilde && (t class.Plus && (t class.Minus && (t class.Star && (t class.Comparison && (t class.Equals && (t class.Reducing && (t class.Declares && (t class.Dots && (t class.Name && (t class.Number && (t class.Widest && (t class.Unknown && (t class.End))))))))))))))))))))))))) (both (t class.Let) (t class.Turn && (t class.Protocol && (t class.Call && (t class.Store && (t class.Element && (t class.OpenBracket && (t class.CloseBracket && (t class.OpenParenthesis && (t class.CloseParenthesis && (t class.OpenBrace && (t class.CloseBrace && (t class.Comma && (t class.Tilde && (t class.Plus && (t class.Minus && (t class.Star && (t class.Comparison && (t class.Equals && (t class.Reducing && (t class.Declares && (t class.Dots && (t class.Name && (t class.Number && (t class.Widest && (t class.Unknown && (t class.End)))))))))))))))))))))))))) (both (t class.If) (t class.Let && (t class.Turn && (t class.Protocol && (t class.Call && (t class.Store && (t class.Element && (t class.OpenBracket && (t class.CloseBracket && (t class.OpenParenthesis && (t class.CloseParenthesis && (t class.OpenBrace && (t class.CloseBrace && (t class.Comma && (t class.Tilde && (t class.Plus && (t class.Minus && (t class.Star && (t class.Comparison && (t class.Equals && (t class.Reducing && (t class.Declares && (t class.Dots && (t class.Name && (t class.Number && (t class.Widest && (t class.Unknown && (t class.End))))))))))))))))))))))))))) (both (t class.Loop) (t class.If && (t class.Let && (t class.Turn && (t class.Protocol && (t class.Call && (t class.Store && (t class.Element && (t class.OpenBracket && (t class.CloseBracket && (t class.OpenParenthesis && (t class.CloseParenthesis && (t class.OpenBrace && (t class.CloseBrace && (t class.Comma && (t class.Tilde && (t class.Plus && (t class.Minus && (t class.Star && (t class.Comparison && (t class.Equals && (t class.Reducing && (t class.Declares && (t class.Dots && (t class.Name && (t class.Number && (t class.Widest && (t class.Unknown && (t class.End)))))))))))))))))))))))))))) (both (t class.Shape) (t class.Loop && (t class.If && (t class.Let && (t class.Turn && (t class.Protocol && (t class.Call && (t class.Store && (t class.Element && (t class.OpenBracket && (t class.CloseBracket && (t class.OpenParenthesis && (t class.CloseParenthesis && (t class.OpenBrace && (t class.CloseBrace && (t class.Comma && (t class.Tilde && (t class.Plus && (t class.Minus && (t class.Star && (t class.Comparison && (t class.Equals && (t class.Reducing && (t class.Declares && (t class.Dots && (t class.Name && (t class.Number && (t class.Widest && (t class.Unknown && (t class.End))))))))))))))))))))))))))))) (both (t class.Fill) (t class.Shape && (t class.Loop && (t class.If && (t class.Let && (t class.Turn && (t class.Protocol && (t class.Call && (t class.Store && (t class.Element && (t class.OpenBracket && (t class.CloseBracket && (t class.OpenParenthesis && (t class.CloseParenthesis && (t class.OpenBrace && (t class.CloseBrace && (t class.Comma && (t class.Tilde && (t class.Plus && (t class.Minus && (t class.Star && (t class.Comparison && (t class.Equals && (t class.Reducing && (t class.Declares && (t class.Dots && (t class.Name && (t class.Number && (t class.Widest && (t class.Unknown && (t class.End)))))))))))))))))))))))))))))) (both (t class.OutOrTmp) (t class.Fill && (t class.Shape && (t class.Loop && (t class.If && (t class.Let && (t class.Turn && (t class.Protocol && (t class.Call && (t class.Store && (t class.Element && (t class.OpenBracket && (t class.CloseBracket && (t class.OpenParenthesis && (t class.CloseParenthesis && (t class.OpenBrace && (t class.CloseBrace && (t class.Comma && (t class.Tilde && (t class.Plus && (t class.Minus && (t class.Star && (t class.Comparison && (t class.Equals && (t class.Reducing && (t class.Declares && (t class.Dots && (t class.Name && (t class.Number && (t class.Widest && (t class.Unknown && (t class.End))))))))))))))))))))))))))))))) (both (t class.In) (t class.OutOrTmp && (t class.Fill && (t class.Shape && (t class.Loop && (t class.If && (t class.Let && (t class.Turn && (t class.Protocol && (t class.Call && (t class.Store && (t class.Element && (t class.OpenBracket && (t class.CloseBracket && (t class.OpenParenthesis && (t class.CloseParenthesis && (t class.OpenBrace && (t class.CloseBrace && (t class.Comma && (t class.Tilde && (t class.Plus && (t class.Minus && (t class.Star && (t class.Comparison && (t class.Equals && (t class.Reducing && (t class.Declares && (t class.Dots && (t class.Name && (t class.Number && (t class.Widest && (t class.Unknown && (t class.End)))))))))))))))))))))))))))))))) h).1).1).1).1).1).1).1).1).1).1).1).1).1).1).1).1).1).1).1).1).1).1).1).1).0
-at_each t h class.Reducing = (both (t class.Reducing) (t class.Declares && (t class.Dots && (t class.Name && (t class.Number && (t class.Widest && (t class.Unknown && (t class.End))))))) (both (t class.Equals) (t class.Reducing && (t class.Declares && (t class.Dots && (t class.Name && (t class.Number && (t class.Widest && (t class.Unknown && (t class.End)))))))) (both (t class.Comparison) (t class.Equals && (t class.Reducing && (t class.Declares && (t class.Dots && (t class.Name && (t class.Number && (t class.Widest && (t class.Unknown && (t class.End))))))))) (both (t class.Star) (t class.Comparison && (t class.Equals && (t class.Reducing && (t class.Declares && (t class.Dots && (t class.Name && (t class.Number && (t class.Widest && (t class.Unknown && (t class.End)))))))))) (both (t class.Minus) (t class.Star && (t class.Comparison && (t class.Equals && (t class.Reducing && (t class.Declares && (t class.Dots && (t class.Name && (t class.Number && (t class.Widest && (t class.Unknown && (t class.End))))))))))) (both (t class.Plus) (t class.Minus && (t class.Star && (t class.Comparison && (t class.Equals && (t class.Reducing && (t class.Declares && (t class.Dots && (t class.Name && (t class.Number && (t class.Widest && (t class.Unknown && (t class.End)))))))))))) (both (t class.Tilde) (t class.Plus && (t class.Minus && (t class.Star && (t class.Comparison && (t class.Equals && (t class.Reducing && (t class.Declares && (t class.Dots && (t class.Name && (t class.Number && (t class.Widest && (t class.Unknown && (t class.End))))))))))))) (both (t class.Comma) (t class.Tilde && (t class.Plus && (t class.Minus && (t class.Star && (t class.Comparison && (t class.Equals && (t class.Reducing && (t class.Declares && (t class.Dots && (t class.Name && (t class.Number && (t class.Widest && (t class.Unknown && (t class.End)))))))))))))) (both (t class.CloseBrace) (t class.Comma && (t class.Tilde && (t class.Plus && (t class.Minus && (t class.Star && (t class.Comparison && (t class.Equals && (t class.Reducing && (t class.Declares && (t class.Dots && (t class.Name && (t class.Number && (t class.Widest && (t class.Unknown && (t class.End))))))))))))))) (both (t class.OpenBrace) (t class.CloseBrace && (t class.Comma && (t class.Tilde && (t class.Plus && (t class.Minus && (t class.Star && (t class.Comparison && (t class.Equals && (t class.Reducing && (t class.Declares && (t class.Dots && (t class.Name && (t class.Number && (t class.Widest && (t class.Unknown && (t class.End)))))))))))))))) (both (t class.CloseParenthesis) (t class.OpenBrace && (t class.CloseBrace && (t class.Comma && (t class.Tilde && (t class.Plus && (t class.Minus && (t class.Star && (t class.Comparison && (t class.Equals && (t class.Reducing && (t class.Declares && (t class.Dots && (t class.Name && (t class.Number && (t class.Widest && (t class.Unknown && (t class.End))))))))))))))))) (both (t class.OpenParenthesis) (t class.CloseParenthesis && (t class.OpenBrace && (t class.CloseBrace && (t class.Comma && (t class.Tilde && (t class.Plus && (t class.Minus && (t class.Star && (t class.Comparison && (t class.Equals && (t class.Reducing && (t class.Declares && (t class.Dots && (t class.Name && (t class.Number && (t class.Widest && (t class.Unknown && (t class.End)))))))))))))))))) (both (t class.CloseBracket) (t class.OpenParenthesis && (t class.CloseParenthesis && (t class.OpenBrace && (t class.CloseBrace && (t class.Comma && (t class.Tilde && (t class.Plus && (t class.Minus && (t class.Star && (t class.Comparison && (t class.Equals && (t class.Reducing && (t class.Declares && (t class.Dots && (t class.Name && (t class.Number && (t class.Widest && (t class.Unknown && (t class.End))))))))))))))))))) (both (t class.OpenBracket) (t class.CloseBracket && (t class.OpenParenthesis && (t class.CloseParenthesis && (t class.OpenBrace && (t class.CloseBrace && (t class.Comma && (t class.Tilde && (t class.Plus && (t class.Minus && (t class.Star && (t class.Comparison && (t class.Equals && (t class.Reducing && (t class.Declares && (t class.Dots && (t class.Name && (t class.Number && (t class.Widest && (t class.Unknown && (t class.End)))))))))))))))))))) (both (t class.Element) (t class.OpenBracket && (t class.CloseBracket && (t class.OpenParenthesis && (t class.CloseParenthesis && (t class.OpenBrace && (t class.CloseBrace && (t class.Comma && (t class.Tilde && (t class.Plus && (t class.Minus && (t class.Star && (t class.Comparison && (t class.Equals && (t class.Reducing && (t class.Declares && (t class.Dots && (t class.Name && (t class.Number && (t class.Widest && (t class.Unknown && (t class.End))))))))))))))))))))) (both (t class.Store) (t class.Element && (t class.OpenBracket && (t class.CloseBracket && (t class.OpenParenthesis && (t class.CloseParenthesis && (t class.OpenBrace && (t class.CloseBrace && (t class.Comma && (t class.Tilde && (t class.Plus && (t class.Minus && (t class.Star && (t class.Comparison && (t class.Equals && (t class.Reducing && (t class.Declares && (t class.Dots && (t class.Name && (t class.Number && (t class.Widest && (t class.Unknown && (t class.End)))))))))))))))))))))) (both (t class.Call) (t class.Store && (t class.Element && (t class.OpenBracket && (t class.CloseBracket && (t class.OpenParenthesis && (t class.CloseParenthesis && (t class.OpenBrace && (t class.CloseBrace && (t class.Comma && (t class.Tilde && (t class.Plus && (t class.Minus && (t class.Star && (t class.Comparison && (t class.Equals && (t class.Reducing && (t class.Declares && (t class.Dots && (t class.Name && (t class.Number && (t class.Widest && (t class.Unknown && (t class.End))))))))))))))))))))))) (both (t class.Protocol) (t class.Call && (t class.Store && (t class.Element && (t class.OpenBracket && (t class.CloseBracket && (t class.OpenParenthesis && (t class.CloseParenthesis && (t class.OpenBrace && (t class.CloseBrace && (t class.Comma && (t class.Tilde && (t class.Plus && (t class.Minus && (t class.Star && (t class.Comparison && (t class.Equals && (t class.Reducing && (t class.Declares && (t class.Dots && (t class.Name && (t class.Number && (t class.Widest && (t class.Unknown && (t class.End)))))))))))))))))))))))) (both (t class.Turn) (t class.Protocol && (t class.Call && (t class.Store && (t class.Element && (t class.OpenBracket && (t class.CloseBracket && (t class.OpenParenthesis && (t class.CloseParenthesis && (t class.OpenBrace && (t class.CloseBrace && (t class.Comma && (t class.Tilde && (t class.Plus && (t class.Minus && (t class.Star && (t class.Comparison && (t class.Equals && (t class.Reducing && (t class.Declares && (t class.Dots && (t class.Name && (t class.Number && (t class.Widest && (t class.Unknown && (t class.End))))))))))))))))))))))))) (both (t class.Let) (t class.Turn && (t class.Protocol && (t class.Call && (t class.Store && (t class.Element && (t class.OpenBracket && (t class.CloseBracket && (t class.OpenParenthesis && (t class.CloseParenthesis && (t class.OpenBrace && (t class.CloseBrace && (t class.Comma && (t class.Tilde && (t class.Plus && (t class.Minus && (t class.Star && (t class.Comparison && (t class.Equals && (t class.Reducing && (t class.Declares && (t class.Dots && (t class.Name && (t class.Number && (t class.Widest && (t class.Unknown && (t class.End)))))))))))))))))))))))))) (both (t class.If) (t class.Let && (t class.Turn && (t class.Protocol && (t class.Call && (t class.Store && (t class.Element && (t class.OpenBracket && (t class.CloseBracket && (t class.OpenParenthesis && (t class.CloseParenthesis && (t class.OpenBrace && (t class.CloseBrace && (t class.Comma && (t class.Tilde && (t class.Plus && (t class.Minus && (t class.Star && (t class.Comparison && (t class.Equals && (t class.Reducing && (t class.Declares && (t class.Dots && (t class.Name && (t class.Number && (t class.Widest && (t class.Unknown && (t class.End))))))))))))))))))))))))))) (both (t class.Loop) (t class.If && (t class.Let && (t class.Turn && (t class.Protocol && (t class.Call && (t class.Store && (t class.Element && (t class.OpenBracket && (t class.CloseBracket && (t class.OpenParenthesis && (t class.CloseParenthesis && (t class.OpenBrace && (t class.CloseBrace && (t class.Comma && (t class.Tilde && (t class.Plus && (t class.Minus && (t class.Star && (t class.Comparison && (t class.Equals && (t class.Reducing && (t class.Declares && (t class.Dots && (t class.Name && (t class.Number && (t class.Widest && (t class.Unknown && (t class.End)))))))))))))))))))))))))))) (both (t class.Shape) (t class.Loop && (t class.If && (t class.Let && (t class.Turn && (t class.Protocol && (t class.Call && (t class.Store && (t class.Element && (t class.OpenBracket && (t class.CloseBracket && (t class.OpenParenthesis && (t class.CloseParenthesis && (t class.OpenBrace && (t class.CloseBrace && (t class.Comma && (t class.Tilde && (t class.Plus && (t class.Minus && (t class.Star && (t class.Comparison && (t class.Equals && (t class.Reducing && (t class.Declares && (t class.Dots && (t class.Name && (t class.Number && (t class.Widest && (t class.Unknown && (t class.End))))))))))))))))))))))))))))) (both (t class.Fill) (t class.Shape && (t class.Loop && (t class.If && (t class.Let && (t class.Turn && (t class.Protocol && (t class.Call && (t class.Store && (t class.Element && (t class.OpenBracket && (t class.CloseBracket && (t class.OpenParenthesis && (t class.CloseParenthesis && (t class.OpenBrace && (t class.CloseBrace && (t class.Comma && (t class.Tilde && (t class.Plus && (t class.Minus && (t class.Star && (t class.Comparison && (t class.Equals && (t class.Reducing && (t class.Declares && (t class.Dots && (t class.Name && (t class.Number && (t class.Widest && (t class.Unknown && (t class.End)))))))))))))))))))))))))))))) (both (t class.OutOrTmp) (t class.Fill && (t class.Shape && (t class.Loop && (t class.If && (t class.Let && (t class.Turn && (t class.Protocol && (t class.Call && (t class.Store && (t class.Element && (t class.OpenBracket && (t class.CloseBracket && (t class.OpenParenthesis && (t class.CloseParenthesis && (t class.OpenBrace && (t class.CloseBrace && (t class.Comma && (t class.Tilde && (t class.Plus && (t class.Minus && (t class.Star && (t class.Comparison && (t class.Equals && (t class.Reducing && (t class.Declares && (t class.Dots && (t class.Name && (t class.Number && (t class.Widest && (t class.Unknown && (t class.End))))))))))))))))))))))))))))))) (both (t class.In) (t class.OutOrTmp && (t class.Fill && (t class.Shape && (t class.Loop && (t class.If && (t class.Let && (t class.Turn && (t class.Protocol && (t class.Call && (t class.Store && (t class.Element && (t class.OpenBracket && (t class.CloseBracket && (t class.OpenParenthesis && (t class.CloseParenthesis && (t class.OpenBrace && (t class.CloseBrace && (t class.Comma && (t class.Tilde && (t class.Plus && (t class.Minus && (t class.Star && (t class.Comparison && (t class.Equals && (t class.Reducing && (t class.Declares && (t class.Dots && (t class.Name && (t class.Number && (t class.Widest && (t class.Unknown && (t class.End)))))))))))))))))))))))))))))))) h).1).1).1).1).1).1).1).1).1).1).1).1).1).1).1).1).1).1).1).1).1).1).1).1).1).0
-at_each t h class.Declares = (both (t class.Declares) (t class.Dots && (t class.Name && (t class.Number && (t class.Widest && (t class.Unknown && (t class.End)))))) (both (t class.Reducing) (t class.Declares && (t class.Dots && (t class.Name && (t class.Number && (t class.Widest && (t class.Unknown && (t class.End))))))) (both (t class.Equals) (t class.Reducing && (t class.Declares && (t class.Dots && (t class.Name && (t class.Number && (t class.Widest && (t class.Unknown && (t class.End)))))))) (both (t class.Comparison) (t class.Equals && (t class.Reducing && (t class.Declares && (t class.Dots && (t class.Name && (t class.Number && (t class.Widest && (t class.Unknown && (t class.End))))))))) (both (t class.Star) (t class.Comparison && (t class.Equals && (t class.Reducing && (t class.Declares && (t class.Dots && (t class.Name && (t class.Number && (t class.Widest && (t class.Unknown && (t class.End)))))))))) (both (t class.Minus) (t class.Star && (t class.Comparison && (t class.Equals && (t class.Reducing && (t class.Declares && (t class.Dots && (t class.Name && (t class.Number && (t class.Widest && (t class.Unknown && (t class.End))))))))))) (both (t class.Plus) (t class.Minus && (t class.Star && (t class.Comparison && (t class.Equals && (t class.Reducing && (t class.Declares && (t class.Dots && (t class.Name && (t class.Number && (t class.Widest && (t class.Unknown && (t class.End)))))))))))) (both (t class.Tilde) (t class.Plus && (t class.Minus && (t class.Star && (t class.Comparison && (t class.Equals && (t class.Reducing && (t class.Declares && (t class.Dots && (t class.Name && (t class.Number && (t class.Widest && (t class.Unknown && (t class.End))))))))))))) (both (t class.Comma) (t class.Tilde && (t class.Plus && (t class.Minus && (t class.Star && (t class.Comparison && (t class.Equals && (t class.Reducing && (t class.Declares && (t class.Dots && (t class.Name && (t class.Number && (t class.Widest && (t class.Unknown && (t class.End)))))))))))))) (both (t class.CloseBrace) (t class.Comma && (t class.Tilde && (t class.Plus && (t class.Minus && (t class.Star && (t class.Comparison && (t class.Equals && (t class.Reducing && (t class.Declares && (t class.Dots && (t class.Name && (t class.Number && (t class.Widest && (t class.Unknown && (t class.End))))))))))))))) (both (t class.OpenBrace) (t class.CloseBrace && (t class.Comma && (t class.Tilde && (t class.Plus && (t class.Minus && (t class.Star && (t class.Comparison && (t class.Equals && (t class.Reducing && (t class.Declares && (t class.Dots && (t class.Name && (t class.Number && (t class.Widest && (t class.Unknown && (t class.End)))))))))))))))) (both (t class.CloseParenthesis) (t class.OpenBrace && (t class.CloseBrace && (t class.Comma && (t class.Tilde && (t class.Plus && (t class.Minus && (t class.Star && (t class.Comparison && (t class.Equals && (t class.Reducing && (t class.Declares && (t class.Dots && (t class.Name && (t class.Number && (t class.Widest && (t class.Unknown && (t class.End))))))))))))))))) (both (t class.OpenParenthesis) (t class.CloseParenthesis && (t class.OpenBrace && (t class.CloseBrace && (t class.Comma && (t class.Tilde && (t class.Plus && (t class.Minus && (t class.Star && (t class.Comparison && (t class.Equals && (t class.Reducing && (t class.Declares && (t class.Dots && (t class.Name && (t class.Number && (t class.Widest && (t class.Unknown && (t class.End)))))))))))))))))) (both (t class.CloseBracket) (t class.OpenParenthesis && (t class.CloseParenthesis && (t class.OpenBrace && (t class.CloseBrace && (t class.Comma && (t class.Tilde && (t class.Plus && (t class.Minus && (t class.Star && (t class.Comparison && (t class.Equals && (t class.Reducing && (t class.Declares && (t class.Dots && (t class.Name && (t class.Number && (t class.Widest && (t class.Unknown && (t class.End))))))))))))))))))) (both (t class.OpenBracket) (t class.CloseBracket && (t class.OpenParenthesis && (t class.CloseParenthesis && (t class.OpenBrace && (t class.CloseBrace && (t class.Comma && (t class.Tilde && (t class.Plus && (t class.Minus && (t class.Star && (t class.Comparison && (t class.Equals && (t class.Reducing && (t class.Declares && (t class.Dots && (t class.Name && (t class.Number && (t class.Widest && (t class.Unknown && (t class.End)))))))))))))))))))) (both (t class.Element) (t class.OpenBracket && (t class.CloseBracket && (t class.OpenParenthesis && (t class.CloseParenthesis && (t class.OpenBrace && (t class.CloseBrace && (t class.Comma && (t class.Tilde && (t class.Plus && (t class.Minus && (t class.Star && (t class.Comparison && (t class.Equals && (t class.Reducing && (t class.Declares && (t class.Dots && (t class.Name && (t class.Number && (t class.Widest && (t class.Unknown && (t class.End))))))))))))))))))))) (both (t class.Store) (t class.Element && (t class.OpenBracket && (t class.CloseBracket && (t class.OpenParenthesis && (t class.CloseParenthesis && (t class.OpenBrace && (t class.CloseBrace && (t class.Comma && (t class.Tilde && (t class.Plus && (t class.Minus && (t class.Star && (t class.Comparison && (t class.Equals && (t class.Reducing && (t class.Declares && (t class.Dots && (t class.Name && (t class.Number && (t class.Widest && (t class.Unknown && (t class.End)))))))))))))))))))))) (both (t class.Call) (t class.Store && (t class.Element && (t class.OpenBracket && (t class.CloseBracket && (t class.OpenParenthesis && (t class.CloseParenthesis && (t class.OpenBrace && (t class.CloseBrace && (t class.Comma && (t class.Tilde && (t class.Plus && (t class.Minus && (t class.Star && (t class.Comparison && (t class.Equals && (t class.Reducing && (t class.Declares && (t class.Dots && (t class.Name && (t class.Number && (t class.Widest && (t class.Unknown && (t class.End))))))))))))))))))))))) (both (t class.Protocol) (t class.Call && (t class.Store && (t class.Element && (t class.OpenBracket && (t class.CloseBracket && (t class.OpenParenthesis && (t class.CloseParenthesis && (t class.OpenBrace && (t class.CloseBrace && (t class.Comma && (t class.Tilde && (t class.Plus && (t class.Minus && (t class.Star && (t class.Comparison && (t class.Equals && (t class.Reducing && (t class.Declares && (t class.Dots && (t class.Name && (t class.Number && (t class.Widest && (t class.Unknown && (t class.End)))))))))))))))))))))))) (both (t class.Turn) (t class.Protocol && (t class.Call && (t class.Store && (t class.Element && (t class.OpenBracket && (t class.CloseBracket && (t class.OpenParenthesis && (t class.CloseParenthesis && (t class.OpenBrace && (t class.CloseBrace && (t class.Comma && (t class.Tilde && (t class.Plus && (t class.Minus && (t class.Star && (t class.Comparison && (t class.Equals && (t class.Reducing && (t class.Declares && (t class.Dots && (t class.Name && (t class.Number && (t class.Widest && (t class.Unknown && (t class.End))))))))))))))))))))))))) (both (t class.Let) (t class.Turn && (t class.Protocol && (t class.Call && (t class.Store && (t class.Element && (t class.OpenBracket && (t class.CloseBracket && (t class.OpenParenthesis && (t class.CloseParenthesis && (t class.OpenBrace && (t class.CloseBrace && (t class.Comma && (t class.Tilde && (t class.Plus && (t class.Minus && (t class.Star && (t class.Comparison && (t class.Equals && (t class.Reducing && (t class.Declares && (t class.Dots && (t class.Name && (t class.Number && (t class.Widest && (t class.Unknown && (t class.End)))))))))))))))))))))))))) (both (t class.If) (t class.Let && (t class.Turn && (t class.Protocol && (t class.Call && (t class.Store && (t class.Element && (t class.OpenBracket && (t class.CloseBracket && (t class.OpenParenthesis && (t class.CloseParenthesis && (t class.OpenBrace && (t class.CloseBrace && (t class.Comma && (t class.Tilde && (t class.Plus && (t class.Minus && (t class.Star && (t class.Comparison && (t class.Equals && (t class.Reducing && (t class.Declares && (t class.Dots && (t class.Name && (t class.Number && (t class.Widest && (t class.Unknown && (t class.End))))))))))))))))))))))))))) (both (t class.Loop) (t class.If && (t class.Let && (t class.Turn && (t class.Protocol && (t class.Call && (t class.Store && (t class.Element && (t class.OpenBracket && (t class.CloseBracket && (t class.OpenParenthesis && (t class.CloseParenthesis && (t class.OpenBrace && (t class.CloseBrace && (t class.Comma && (t class.Tilde && (t class.Plus && (t class.Minus && (t class.Star && (t class.Comparison && (t class.Equals && (t class.Reducing && (t class.Declares && (t class.Dots && (t class.Name && (t class.Number && (t class.Widest && (t class.Unknown && (t class.End)))))))))))))))))))))))))))) (both (t class.Shape) (t class.Loop && (t class.If && (t class.Let && (t class.Turn && (t class.Protocol && (t class.Call && (t class.Store && (t class.Element && (t class.OpenBracket && (t class.CloseBracket && (t class.OpenParenthesis && (t class.CloseParenthesis && (t class.OpenBrace && (t class.CloseBrace && (t class.Comma && (t class.Tilde && (t class.Plus && (t class.Minus && (t class.Star && (t class.Comparison && (t class.Equals && (t class.Reducing && (t class.Declares && (t class.Dots && (t class.Name && (t class.Number && (t class.Widest && (t class.Unknown && (t class.End))))))))))))))))))))))))))))) (both (t class.Fill) (t class.Shape && (t class.Loop && (t class.If && (t class.Let && (t class.Turn && (t class.Protocol && (t class.Call && (t class.Store && (t class.Element && (t class.OpenBracket && (t class.CloseBracket && (t class.OpenParenthesis && (t class.CloseParenthesis && (t class.OpenBrace && (t class.CloseBrace && (t class.Comma && (t class.Tilde && (t class.Plus && (t class.Minus && (t class.Star && (t class.Comparison && (t class.Equals && (t class.Reducing && (t class.Declares && (t class.Dots && (t class.Name && (t class.Number && (t class.Widest && (t class.Unknown && (t class.End)))))))))))))))))))))))))))))) (both (t class.OutOrTmp) (t class.Fill && (t class.Shape && (t class.Loop && (t class.If && (t class.Let && (t class.Turn && (t class.Protocol && (t class.Call && (t class.Store && (t class.Element && (t class.OpenBracket && (t class.CloseBracket && (t class.OpenParenthesis && (t class.CloseParenthesis && (t class.OpenBrace && (t class.CloseBrace && (t class.Comma && (t class.Tilde && (t class.Plus && (t class.Minus && (t class.Star && (t class.Comparison && (t class.Equals && (t class.Reducing && (t class.Declares && (t class.Dots && (t class.Name && (t class.Number && (t class.Widest && (t class.Unknown && (t class.End))))))))))))))))))))))))))))))) (both (t class.In) (t class.OutOrTmp && (t class.Fill && (t class.Shape && (t class.Loop && (t class.If && (t class.Let && (t class.Turn && (t class.Protocol && (t class.Call && (t class.Store && (t class.Element && (t class.OpenBracket && (t class.CloseBracket && (t class.OpenParenthesis && (t class.CloseParenthesis && (t class.OpenBrace && (t class.CloseBrace && (t class.Comma && (t class.Tilde && (t class.Plus && (t class.Minus && (t class.Star && (t class.Comparison && (t class.Equals && (t class.Reducing && (t class.Declares && (t class.Dots && (t class.Name && (t class.Number && (t class.Widest && (t class.Unknown && (t class.End)))))))))))))))))))))))))))))))) h).1).1).1).1).1).1).1).1).1).1).1).1).1).1).1).1).1).1).1).1).1).1).1).1).1).1).0
-at_each t h class.Dots = (both (t class.Dots) (t class.Name && (t class.Number && (t class.Widest && (t class.Unknown && (t class.End))))) (both (t class.Declares) (t class.Dots && (t class.Name && (t class.Number && (t class.Widest && (t class.Unknown && (t class.End)))))) (both (t class.Reducing) (t class.Declares && (t class.Dots && (t class.Name && (t class.Number && (t class.Widest && (t class.Unknown && (t class.End))))))) (both (t class.Equals) (t class.Reducing && (t class.Declares && (t class.Dots && (t class.Name && (t class.Number && (t class.Widest && (t class.Unknown && (t class.End)))))))) (both (t class.Comparison) (t class.Equals && (t class.Reducing && (t class.Declares && (t class.Dots && (t class.Name && (t class.Number && (t class.Widest && (t class.Unknown && (t class.End))))))))) (both (t class.Star) (t class.Comparison && (t class.Equals && (t class.Reducing && (t class.Declares && (t class.Dots && (t class.Name && (t class.Number && (t class.Widest && (t class.Unknown && (t class.End)))))))))) (both (t class.Minus) (t class.Star && (t class.Comparison && (t class.Equals && (t class.Reducing && (t class.Declares && (t class.Dots && (t class.Name && (t class.Number && (t class.Widest && (t class.Unknown && (t class.End))))))))))) (both (t class.Plus) (t class.Minus && (t class.Star && (t class.Comparison && (t class.Equals && (t class.Reducing && (t class.Declares && (t class.Dots && (t class.Name && (t class.Number && (t class.Widest && (t class.Unknown && (t class.End)))))))))))) (both (t class.Tilde) (t class.Plus && (t class.Minus && (t class.Star && (t class.Comparison && (t class.Equals && (t class.Reducing && (t class.Declares && (t class.Dots && (t class.Name && (t class.Number && (t class.Widest && (t class.Unknown && (t class.End))))))))))))) (both (t class.Comma) (t class.Tilde && (t class.Plus && (t class.Minus && (t class.Star && (t class.Comparison && (t class.Equals && (t class.Reducing && (t class.Declares && (t class.Dots && (t class.Name && (t class.Number && (t class.Widest && (t class.Unknown && (t class.End)))))))))))))) (both (t class.CloseBrace) (t class.Comma && (t class.Tilde && (t class.Plus && (t class.Minus && (t class.Star && (t class.Comparison && (t class.Equals && (t class.Reducing && (t class.Declares && (t class.Dots && (t class.Name && (t class.Number && (t class.Widest && (t class.Unknown && (t class.End))))))))))))))) (both (t class.OpenBrace) (t class.CloseBrace && (t class.Comma && (t class.Tilde && (t class.Plus && (t class.Minus && (t class.Star && (t class.Comparison && (t class.Equals && (t class.Reducing && (t class.Declares && (t class.Dots && (t class.Name && (t class.Number && (t class.Widest && (t class.Unknown && (t class.End)))))))))))))))) (both (t class.CloseParenthesis) (t class.OpenBrace && (t class.CloseBrace && (t class.Comma && (t class.Tilde && (t class.Plus && (t class.Minus && (t class.Star && (t class.Comparison && (t class.Equals && (t class.Reducing && (t class.Declares && (t class.Dots && (t class.Name && (t class.Number && (t class.Widest && (t class.Unknown && (t class.End))))))))))))))))) (both (t class.OpenParenthesis) (t class.CloseParenthesis && (t class.OpenBrace && (t class.CloseBrace && (t class.Comma && (t class.Tilde && (t class.Plus && (t class.Minus && (t class.Star && (t class.Comparison && (t class.Equals && (t class.Reducing && (t class.Declares && (t class.Dots && (t class.Name && (t class.Number && (t class.Widest && (t class.Unknown && (t class.End)))))))))))))))))) (both (t class.CloseBracket) (t class.OpenParenthesis && (t class.CloseParenthesis && (t class.OpenBrace && (t class.CloseBrace && (t class.Comma && (t class.Tilde && (t class.Plus && (t class.Minus && (t class.Star && (t class.Comparison && (t class.Equals && (t class.Reducing && (t class.Declares && (t class.Dots && (t class.Name && (t class.Number && (t class.Widest && (t class.Unknown && (t class.End))))))))))))))))))) (both (t class.OpenBracket) (t class.CloseBracket && (t class.OpenParenthesis && (t class.CloseParenthesis && (t class.OpenBrace && (t class.CloseBrace && (t class.Comma && (t class.Tilde && (t class.Plus && (t class.Minus && (t class.Star && (t class.Comparison && (t class.Equals && (t class.Reducing && (t class.Declares && (t class.Dots && (t class.Name && (t class.Number && (t class.Widest && (t class.Unknown && (t class.End)))))))))))))))))))) (both (t class.Element) (t class.OpenBracket && (t class.CloseBracket && (t class.OpenParenthesis && (t class.CloseParenthesis && (t class.OpenBrace && (t class.CloseBrace && (t class.Comma && (t class.Tilde && (t class.Plus && (t class.Minus && (t class.Star && (t class.Comparison && (t class.Equals && (t class.Reducing && (t class.Declares && (t class.Dots && (t class.Name && (t class.Number && (t class.Widest && (t class.Unknown && (t class.End))))))))))))))))))))) (both (t class.Store) (t class.Element && (t class.OpenBracket && (t class.CloseBracket && (t class.OpenParenthesis && (t class.CloseParenthesis && (t class.OpenBrace && (t class.CloseBrace && (t class.Comma && (t class.Tilde && (t class.Plus && (t class.Minus && (t class.Star && (t class.Comparison && (t class.Equals && (t class.Reducing && (t class.Declares && (t class.Dots && (t class.Name && (t class.Number && (t class.Widest && (t class.Unknown && (t class.End)))))))))))))))))))))) (both (t class.Call) (t class.Store && (t class.Element && (t class.OpenBracket && (t class.CloseBracket && (t class.OpenParenthesis && (t class.CloseParenthesis && (t class.OpenBrace && (t class.CloseBrace && (t class.Comma && (t class.Tilde && (t class.Plus && (t class.Minus && (t class.Star && (t class.Comparison && (t class.Equals && (t class.Reducing && (t class.Declares && (t class.Dots && (t class.Name && (t class.Number && (t class.Widest && (t class.Unknown && (t class.End))))))))))))))))))))))) (both (t class.Protocol) (t class.Call && (t class.Store && (t class.Element && (t class.OpenBracket && (t class.CloseBracket && (t class.OpenParenthesis && (t class.CloseParenthesis && (t class.OpenBrace && (t class.CloseBrace && (t class.Comma && (t class.Tilde && (t class.Plus && (t class.Minus && (t class.Star && (t class.Comparison && (t class.Equals && (t class.Reducing && (t class.Declares && (t class.Dots && (t class.Name && (t class.Number && (t class.Widest && (t class.Unknown && (t class.End)))))))))))))))))))))))) (both (t class.Turn) (t class.Protocol && (t class.Call && (t class.Store && (t class.Element && (t class.OpenBracket && (t class.CloseBracket && (t class.OpenParenthesis && (t class.CloseParenthesis && (t class.OpenBrace && (t class.CloseBrace && (t class.Comma && (t class.Tilde && (t class.Plus && (t class.Minus && (t class.Star && (t class.Comparison && (t class.Equals && (t class.Reducing && (t class.Declares && (t class.Dots && (t class.Name && (t class.Number && (t class.Widest && (t class.Unknown && (t class.End))))))))))))))))))))))))) (both (t class.Let) (t class.Turn && (t class.Protocol && (t class.Call && (t class.Store && (t class.Element && (t class.OpenBracket && (t class.CloseBracket && (t class.OpenParenthesis && (t class.CloseParenthesis && (t class.OpenBrace && (t class.CloseBrace && (t class.Comma && (t class.Tilde && (t class.Plus && (t class.Minus && (t class.Star && (t class.Comparison && (t class.Equals && (t class.Reducing && (t class.Declares && (t class.Dots && (t class.Name && (t class.Number && (t class.Widest && (t class.Unknown && (t class.End)))))))))))))))))))))))))) (both (t class.If) (t class.Let && (t class.Turn && (t class.Protocol && (t class.Call && (t class.Store && (t class.Element && (t class.OpenBracket && (t class.CloseBracket && (t class.OpenParenthesis && (t class.CloseParenthesis && (t class.OpenBrace && (t class.CloseBrace && (t class.Comma && (t class.Tilde && (t class.Plus && (t class.Minus && (t class.Star && (t class.Comparison && (t class.Equals && (t class.Reducing && (t class.Declares && (t class.Dots && (t class.Name && (t class.Number && (t class.Widest && (t class.Unknown && (t class.End))))))))))))))))))))))))))) (both (t class.Loop) (t class.If && (t class.Let && (t class.Turn && (t class.Protocol && (t class.Call && (t class.Store && (t class.Element && (t class.OpenBracket && (t class.CloseBracket && (t class.OpenParenthesis && (t class.CloseParenthesis && (t class.OpenBrace && (t class.CloseBrace && (t class.Comma && (t class.Tilde && (t class.Plus && (t class.Minus && (t class.Star && (t class.Comparison && (t class.Equals && (t class.Reducing && (t class.Declares && (t class.Dots && (t class.Name && (t class.Number && (t class.Widest && (t class.Unknown && (t class.End)))))))))))))))))))))))))))) (both (t class.Shape) (t class.Loop && (t class.If && (t class.Let && (t class.Turn && (t class.Protocol && (t class.Call && (t class.Store && (t class.Element && (t class.OpenBracket && (t class.CloseBracket && (t class.OpenParenthesis && (t class.CloseParenthesis && (t class.OpenBrace && (t class.CloseBrace && (t class.Comma && (t class.Tilde && (t class.Plus && (t class.Minus && (t class.Star && (t class.Comparison && (t class.Equals && (t class.Reducing && (t class.Declares && (t class.Dots && (t class.Name && (t class.Number && (t class.Widest && (t class.Unknown && (t class.End))))))))))))))))))))))))))))) (both (t class.Fill) (t class.Shape && (t class.Loop && (t class.If && (t class.Let && (t class.Turn && (t class.Protocol && (t class.Call && (t class.Store && (t class.Element && (t class.OpenBracket && (t class.CloseBracket && (t class.OpenParenthesis && (t class.CloseParenthesis && (t class.OpenBrace && (t class.CloseBrace && (t class.Comma && (t class.Tilde && (t class.Plus && (t class.Minus && (t class.Star && (t class.Comparison && (t class.Equals && (t class.Reducing && (t class.Declares && (t class.Dots && (t class.Name && (t class.Number && (t class.Widest && (t class.Unknown && (t class.End)))))))))))))))))))))))))))))) (both (t class.OutOrTmp) (t class.Fill && (t class.Shape && (t class.Loop && (t class.If && (t class.Let && (t class.Turn && (t class.Protocol && (t class.Call && (t class.Store && (t class.Element && (t class.OpenBracket && (t class.CloseBracket && (t class.OpenParenthesis && (t class.CloseParenthesis && (t class.OpenBrace && (t class.CloseBrace && (t class.Comma && (t class.Tilde && (t class.Plus && (t class.Minus && (t class.Star && (t class.Comparison && (t class.Equals && (t class.Reducing && (t class.Declares && (t class.Dots && (t class.Name && (t class.Number && (t class.Widest && (t class.Unknown && (t class.End))))))))))))))))))))))))))))))) (both (t class.In) (t class.OutOrTmp && (t class.Fill && (t class.Shape && (t class.Loop && (t class.If && (t class.Let && (t class.Turn && (t class.Protocol && (t class.Call && (t class.Store && (t class.Element && (t class.OpenBracket && (t class.CloseBracket && (t class.OpenParenthesis && (t class.CloseParenthesis && (t class.OpenBrace && (t class.CloseBrace && (t class.Comma && (t class.Tilde && (t class.Plus && (t class.Minus && (t class.Star && (t class.Comparison && (t class.Equals && (t class.Reducing && (t class.Declares && (t class.Dots && (t class.Name && (t class.Number && (t class.Widest && (t class.Unknown && (t class.End)))))))))))))))))))))))))))))))) h).1).1).1).1).1).1).1).1).1).1).1).1).1).1).1).1).1).1).1).1).1).1).1).1).1).1).1).0
-at_each t h class.Name = (both (t class.Name) (t class.Number && (t class.Widest && (t class.Unknown && (t class.End)))) (both (t class.Dots) (t class.Name && (t class.Number && (t class.Widest && (t class.Unknown && (t class.End))))) (both (t class.Declares) (t class.Dots && (t class.Name && (t class.Number && (t class.Widest && (t class.Unknown && (t class.End)))))) (both (t class.Reducing) (t class.Declares && (t class.Dots && (t class.Name && (t class.Number && (t class.Widest && (t class.Unknown && (t class.End))))))) (both (t class.Equals) (t class.Reducing && (t class.Declares && (t class.Dots && (t class.Name && (t class.Number && (t class.Widest && (t class.Unknown && (t class.End)))))))) (both (t class.Comparison) (t class.Equals && (t class.Reducing && (t class.Declares && (t class.Dots && (t class.Name && (t class.Number && (t class.Widest && (t class.Unknown && (t class.End))))))))) (both (t class.Star) (t class.Comparison && (t class.Equals && (t class.Reducing && (t class.Declares && (t class.Dots && (t class.Name && (t class.Number && (t class.Widest && (t class.Unknown && (t class.End)))))))))) (both (t class.Minus) (t class.Star && (t class.Comparison && (t class.Equals && (t class.Reducing && (t class.Declares && (t class.Dots && (t class.Name && (t class.Number && (t class.Widest && (t class.Unknown && (t class.End))))))))))) (both (t class.Plus) (t class.Minus && (t class.Star && (t class.Comparison && (t class.Equals && (t class.Reducing && (t class.Declares && (t class.Dots && (t class.Name && (t class.Number && (t class.Widest && (t class.Unknown && (t class.End)))))))))))) (both (t class.Tilde) (t class.Plus && (t class.Minus && (t class.Star && (t class.Comparison && (t class.Equals && (t class.Reducing && (t class.Declares && (t class.Dots && (t class.Name && (t class.Number && (t class.Widest && (t class.Unknown && (t class.End))))))))))))) (both (t class.Comma) (t class.Tilde && (t class.Plus && (t class.Minus && (t class.Star && (t class.Comparison && (t class.Equals && (t class.Reducing && (t class.Declares && (t class.Dots && (t class.Name && (t class.Number && (t class.Widest && (t class.Unknown && (t class.End)))))))))))))) (both (t class.CloseBrace) (t class.Comma && (t class.Tilde && (t class.Plus && (t class.Minus && (t class.Star && (t class.Comparison && (t class.Equals && (t class.Reducing && (t class.Declares && (t class.Dots && (t class.Name && (t class.Number && (t class.Widest && (t class.Unknown && (t class.End))))))))))))))) (both (t class.OpenBrace) (t class.CloseBrace && (t class.Comma && (t class.Tilde && (t class.Plus && (t class.Minus && (t class.Star && (t class.Comparison && (t class.Equals && (t class.Reducing && (t class.Declares && (t class.Dots && (t class.Name && (t class.Number && (t class.Widest && (t class.Unknown && (t class.End)))))))))))))))) (both (t class.CloseParenthesis) (t class.OpenBrace && (t class.CloseBrace && (t class.Comma && (t class.Tilde && (t class.Plus && (t class.Minus && (t class.Star && (t class.Comparison && (t class.Equals && (t class.Reducing && (t class.Declares && (t class.Dots && (t class.Name && (t class.Number && (t class.Widest && (t class.Unknown && (t class.End))))))))))))))))) (both (t class.OpenParenthesis) (t class.CloseParenthesis && (t class.OpenBrace && (t class.CloseBrace && (t class.Comma && (t class.Tilde && (t class.Plus && (t class.Minus && (t class.Star && (t class.Comparison && (t class.Equals && (t class.Reducing && (t class.Declares && (t class.Dots && (t class.Name && (t class.Number && (t class.Widest && (t class.Unknown && (t class.End)))))))))))))))))) (both (t class.CloseBracket) (t class.OpenParenthesis && (t class.CloseParenthesis && (t class.OpenBrace && (t class.CloseBrace && (t class.Comma && (t class.Tilde && (t class.Plus && (t class.Minus && (t class.Star && (t class.Comparison && (t class.Equals && (t class.Reducing && (t class.Declares && (t class.Dots && (t class.Name && (t class.Number && (t class.Widest && (t class.Unknown && (t class.End))))))))))))))))))) (both (t class.OpenBracket) (t class.CloseBracket && (t class.OpenParenthesis && (t class.CloseParenthesis && (t class.OpenBrace && (t class.CloseBrace && (t class.Comma && (t class.Tilde && (t class.Plus && (t class.Minus && (t class.Star && (t class.Comparison && (t class.Equals && (t class.Reducing && (t class.Declares && (t class.Dots && (t class.Name && (t class.Number && (t class.Widest && (t class.Unknown && (t class.End)))))))))))))))))))) (both (t class.Element) (t class.OpenBracket && (t class.CloseBracket && (t class.OpenParenthesis && (t class.CloseParenthesis && (t class.OpenBrace && (t class.CloseBrace && (t class.Comma && (t class.Tilde && (t class.Plus && (t class.Minus && (t class.Star && (t class.Comparison && (t class.Equals && (t class.Reducing && (t class.Declares && (t class.Dots && (t class.Name && (t class.Number && (t class.Widest && (t class.Unknown && (t class.End))))))))))))))))))))) (both (t class.Store) (t class.Element && (t class.OpenBracket && (t class.CloseBracket && (t class.OpenParenthesis && (t class.CloseParenthesis && (t class.OpenBrace && (t class.CloseBrace && (t class.Comma && (t class.Tilde && (t class.Plus && (t class.Minus && (t class.Star && (t class.Comparison && (t class.Equals && (t class.Reducing && (t class.Declares && (t class.Dots && (t class.Name && (t class.Number && (t class.Widest && (t class.Unknown && (t class.End)))))))))))))))))))))) (both (t class.Call) (t class.Store && (t class.Element && (t class.OpenBracket && (t class.CloseBracket && (t class.OpenParenthesis && (t class.CloseParenthesis && (t class.OpenBrace && (t class.CloseBrace && (t class.Comma && (t class.Tilde && (t class.Plus && (t class.Minus && (t class.Star && (t class.Comparison && (t class.Equals && (t class.Reducing && (t class.Declares && (t class.Dots && (t class.Name && (t class.Number && (t class.Widest && (t class.Unknown && (t class.End))))))))))))))))))))))) (both (t class.Protocol) (t class.Call && (t class.Store && (t class.Element && (t class.OpenBracket && (t class.CloseBracket && (t class.OpenParenthesis && (t class.CloseParenthesis && (t class.OpenBrace && (t class.CloseBrace && (t class.Comma && (t class.Tilde && (t class.Plus && (t class.Minus && (t class.Star && (t class.Comparison && (t class.Equals && (t class.Reducing && (t class.Declares && (t class.Dots && (t class.Name && (t class.Number && (t class.Widest && (t class.Unknown && (t class.End)))))))))))))))))))))))) (both (t class.Turn) (t class.Protocol && (t class.Call && (t class.Store && (t class.Element && (t class.OpenBracket && (t class.CloseBracket && (t class.OpenParenthesis && (t class.CloseParenthesis && (t class.OpenBrace && (t class.CloseBrace && (t class.Comma && (t class.Tilde && (t class.Plus && (t class.Minus && (t class.Star && (t class.Comparison && (t class.Equals && (t class.Reducing && (t class.Declares && (t class.Dots && (t class.Name && (t class.Number && (t class.Widest && (t class.Unknown && (t class.End))))))))))))))))))))))))) (both (t class.Let) (t class.Turn && (t class.Protocol && (t class.Call && (t class.Store && (t class.Element && (t class.OpenBracket && (t class.CloseBracket && (t class.OpenParenthesis && (t class.CloseParenthesis && (t class.OpenBrace && (t class.CloseBrace && (t class.Comma && (t class.Tilde && (t class.Plus && (t class.Minus && (t class.Star && (t class.Comparison && (t class.Equals && (t class.Reducing && (t class.Declares && (t class.Dots && (t class.Name && (t class.Number && (t class.Widest && (t class.Unknown && (t class.End)))))))))))))))))))))))))) (both (t class.If) (t class.Let && (t class.Turn && (t class.Protocol && (t class.Call && (t class.Store && (t class.Element && (t class.OpenBracket && (t class.CloseBracket && (t class.OpenParenthesis && (t class.CloseParenthesis && (t class.OpenBrace && (t class.CloseBrace && (t class.Comma && (t class.Tilde && (t class.Plus && (t class.Minus && (t class.Star && (t class.Comparison && (t class.Equals && (t class.Reducing && (t class.Declares && (t class.Dots && (t class.Name && (t class.Number && (t class.Widest && (t class.Unknown && (t class.End))))))))))))))))))))))))))) (both (t class.Loop) (t class.If && (t class.Let && (t class.Turn && (t class.Protocol && (t class.Call && (t class.Store && (t class.Element && (t class.OpenBracket && (t class.CloseBracket && (t class.OpenParenthesis && (t class.CloseParenthesis && (t class.OpenBrace && (t class.CloseBrace && (t class.Comma && (t class.Tilde && (t class.Plus && (t class.Minus && (t class.Star && (t class.Comparison && (t class.Equals && (t class.Reducing && (t class.Declares && (t class.Dots && (t class.Name && (t class.Number && (t class.Widest && (t class.Unknown && (t class.End)))))))))))))))))))))))))))) (both (t class.Shape) (t class.Loop && (t class.If && (t class.Let && (t class.Turn && (t class.Protocol && (t class.Call && (t class.Store && (t class.Element && (t class.OpenBracket && (t class.CloseBracket && (t class.OpenParenthesis && (t class.CloseParenthesis && (t class.OpenBrace && (t class.CloseBrace && (t class.Comma && (t class.Tilde && (t class.Plus && (t class.Minus && (t class.Star && (t class.Comparison && (t class.Equals && (t class.Reducing && (t class.Declares && (t class.Dots && (t class.Name && (t class.Number && (t class.Widest && (t class.Unknown && (t class.End))))))))))))))))))))))))))))) (both (t class.Fill) (t class.Shape && (t class.Loop && (t class.If && (t class.Let && (t class.Turn && (t class.Protocol && (t class.Call && (t class.Store && (t class.Element && (t class.OpenBracket && (t class.CloseBracket && (t class.OpenParenthesis && (t class.CloseParenthesis && (t class.OpenBrace && (t class.CloseBrace && (t class.Comma && (t class.Tilde && (t class.Plus && (t class.Minus && (t class.Star && (t class.Comparison && (t class.Equals && (t class.Reducing && (t class.Declares && (t class.Dots && (t class.Name && (t class.Number && (t class.Widest && (t class.Unknown && (t class.End)))))))))))))))))))))))))))))) (both (t class.OutOrTmp) (t class.Fill && (t class.Shape && (t class.Loop && (t class.If && (t class.Let && (t class.Turn && (t class.Protocol && (t class.Call && (t class.Store && (t class.Element && (t class.OpenBracket && (t class.CloseBracket && (t class.OpenParenthesis && (t class.CloseParenthesis && (t class.OpenBrace && (t class.CloseBrace && (t class.Comma && (t class.Tilde && (t class.Plus && (t class.Minus && (t class.Star && (t class.Comparison && (t class.Equals && (t class.Reducing && (t class.Declares && (t class.Dots && (t class.Name && (t class.Number && (t class.Widest && (t class.Unknown && (t class.End))))))))))))))))))))))))))))))) (both (t class.In) (t class.OutOrTmp && (t class.Fill && (t class.Shape && (t class.Loop && (t class.If && (t class.Let && (t class.Turn && (t class.Protocol && (t class.Call && (t class.Store && (t class.Element && (t class.OpenBracket && (t class.CloseBracket && (t class.OpenParenthesis && (t class.CloseParenthesis && (t class.OpenBrace && (t class.CloseBrace && (t class.Comma && (t class.Tilde && (t class.Plus && (t class.Minus && (t class.Star && (t class.Comparison && (t class.Equals && (t class.Reducing && (t class.Declares && (t class.Dots && (t class.Name && (t class.Number && (t class.Widest && (t class.Unknown && (t class.End)))))))))))))))))))))))))))))))) h).1).1).1).1).1).1).1).1).1).1).1).1).1).1).1).1).1).1).1).1).1).1).1).1).1).1).1).1).0
-at_each t h class.Number = (both (t class.Number) (t class.Widest && (t class.Unknown && (t class.End))) (both (t class.Name) (t class.Number && (t class.Widest && (t class.Unknown && (t class.End)))) (both (t class.Dots) (t class.Name && (t class.Number && (t class.Widest && (t class.Unknown && (t class.End))))) (both (t class.Declares) (t class.Dots && (t class.Name && (t class.Number && (t class.Widest && (t class.Unknown && (t class.End)))))) (both (t class.Reducing) (t class.Declares && (t class.Dots && (t class.Name && (t class.Number && (t class.Widest && (t class.Unknown && (t class.End))))))) (both (t class.Equals) (t class.Reducing && (t class.Declares && (t class.Dots && (t class.Name && (t class.Number && (t class.Widest && (t class.Unknown && (t class.End)))))))) (both (t class.Comparison) (t class.Equals && (t class.Reducing && (t class.Declares && (t class.Dots && (t class.Name && (t class.Number && (t class.Widest && (t class.Unknown && (t class.End))))))))) (both (t class.Star) (t class.Comparison && (t class.Equals && (t class.Reducing && (t class.Declares && (t class.Dots && (t class.Name && (t class.Number && (t class.Widest && (t class.Unknown && (t class.End)))))))))) (both (t class.Minus) (t class.Star && (t class.Comparison && (t class.Equals && (t class.Reducing && (t class.Declares && (t class.Dots && (t class.Name && (t class.Number && (t class.Widest && (t class.Unknown && (t class.End))))))))))) (both (t class.Plus) (t class.Minus && (t class.Star && (t class.Comparison && (t class.Equals && (t class.Reducing && (t class.Declares && (t class.Dots && (t class.Name && (t class.Number && (t class.Widest && (t class.Unknown && (t class.End)))))))))))) (both (t class.Tilde) (t class.Plus && (t class.Minus && (t class.Star && (t class.Comparison && (t class.Equals && (t class.Reducing && (t class.Declares && (t class.Dots && (t class.Name && (t class.Number && (t class.Widest && (t class.Unknown && (t class.End))))))))))))) (both (t class.Comma) (t class.Tilde && (t class.Plus && (t class.Minus && (t class.Star && (t class.Comparison && (t class.Equals && (t class.Reducing && (t class.Declares && (t class.Dots && (t class.Name && (t class.Number && (t class.Widest && (t class.Unknown && (t class.End)))))))))))))) (both (t class.CloseBrace) (t class.Comma && (t class.Tilde && (t class.Plus && (t class.Minus && (t class.Star && (t class.Comparison && (t class.Equals && (t class.Reducing && (t class.Declares && (t class.Dots && (t class.Name && (t class.Number && (t class.Widest && (t class.Unknown && (t class.End))))))))))))))) (both (t class.OpenBrace) (t class.CloseBrace && (t class.Comma && (t class.Tilde && (t class.Plus && (t class.Minus && (t class.Star && (t class.Comparison && (t class.Equals && (t class.Reducing && (t class.Declares && (t class.Dots && (t class.Name && (t class.Number && (t class.Widest && (t class.Unknown && (t class.End)))))))))))))))) (both (t class.CloseParenthesis) (t class.OpenBrace && (t class.CloseBrace && (t class.Comma && (t class.Tilde && (t class.Plus && (t class.Minus && (t class.Star && (t class.Comparison && (t class.Equals && (t class.Reducing && (t class.Declares && (t class.Dots && (t class.Name && (t class.Number && (t class.Widest && (t class.Unknown && (t class.End))))))))))))))))) (both (t class.OpenParenthesis) (t class.CloseParenthesis && (t class.OpenBrace && (t class.CloseBrace && (t class.Comma && (t class.Tilde && (t class.Plus && (t class.Minus && (t class.Star && (t class.Comparison && (t class.Equals && (t class.Reducing && (t class.Declares && (t class.Dots && (t class.Name && (t class.Number && (t class.Widest && (t class.Unknown && (t class.End)))))))))))))))))) (both (t class.CloseBracket) (t class.OpenParenthesis && (t class.CloseParenthesis && (t class.OpenBrace && (t class.CloseBrace && (t class.Comma && (t class.Tilde && (t class.Plus && (t class.Minus && (t class.Star && (t class.Comparison && (t class.Equals && (t class.Reducing && (t class.Declares && (t class.Dots && (t class.Name && (t class.Number && (t class.Widest && (t class.Unknown && (t class.End))))))))))))))))))) (both (t class.OpenBracket) (t class.CloseBracket && (t class.OpenParenthesis && (t class.CloseParenthesis && (t class.OpenBrace && (t class.CloseBrace && (t class.Comma && (t class.Tilde && (t class.Plus && (t class.Minus && (t class.Star && (t class.Comparison && (t class.Equals && (t class.Reducing && (t class.Declares && (t class.Dots && (t class.Name && (t class.Number && (t class.Widest && (t class.Unknown && (t class.End)))))))))))))))))))) (both (t class.Element) (t class.OpenBracket && (t class.CloseBracket && (t class.OpenParenthesis && (t class.CloseParenthesis && (t class.OpenBrace && (t class.CloseBrace && (t class.Comma && (t class.Tilde && (t class.Plus && (t class.Minus && (t class.Star && (t class.Comparison && (t class.Equals && (t class.Reducing && (t class.Declares && (t class.Dots && (t class.Name && (t class.Number && (t class.Widest && (t class.Unknown && (t class.End))))))))))))))))))))) (both (t class.Store) (t class.Element && (t class.OpenBracket && (t class.CloseBracket && (t class.OpenParenthesis && (t class.CloseParenthesis && (t class.OpenBrace && (t class.CloseBrace && (t class.Comma && (t class.Tilde && (t class.Plus && (t class.Minus && (t class.Star && (t class.Comparison && (t class.Equals && (t class.Reducing && (t class.Declares && (t class.Dots && (t class.Name && (t class.Number && (t class.Widest && (t class.Unknown && (t class.End)))))))))))))))))))))) (both (t class.Call) (t class.Store && (t class.Element && (t class.OpenBracket && (t class.CloseBracket && (t class.OpenParenthesis && (t class.CloseParenthesis && (t class.OpenBrace && (t class.CloseBrace && (t class.Comma && (t class.Tilde && (t class.Plus && (t class.Minus && (t class.Star && (t class.Comparison && (t class.Equals && (t class.Reducing && (t class.Declares && (t class.Dots && (t class.Name && (t class.Number && (t class.Widest && (t class.Unknown && (t class.End))))))))))))))))))))))) (both (t class.Protocol) (t class.Call && (t class.Store && (t class.Element && (t class.OpenBracket && (t class.CloseBracket && (t class.OpenParenthesis && (t class.CloseParenthesis && (t class.OpenBrace && (t class.CloseBrace && (t class.Comma && (t class.Tilde && (t class.Plus && (t class.Minus && (t class.Star && (t class.Comparison && (t class.Equals && (t class.Reducing && (t class.Declares && (t class.Dots && (t class.Name && (t class.Number && (t class.Widest && (t class.Unknown && (t class.End)))))))))))))))))))))))) (both (t class.Turn) (t class.Protocol && (t class.Call && (t class.Store && (t class.Element && (t class.OpenBracket && (t class.CloseBracket && (t class.OpenParenthesis && (t class.CloseParenthesis && (t class.OpenBrace && (t class.CloseBrace && (t class.Comma && (t class.Tilde && (t class.Plus && (t class.Minus && (t class.Star && (t class.Comparison && (t class.Equals && (t class.Reducing && (t class.Declares && (t class.Dots && (t class.Name && (t class.Number && (t class.Widest && (t class.Unknown && (t class.End))))))))))))))))))))))))) (both (t class.Let) (t class.Turn && (t class.Protocol && (t class.Call && (t class.Store && (t class.Element && (t class.OpenBracket && (t class.CloseBracket && (t class.OpenParenthesis && (t class.CloseParenthesis && (t class.OpenBrace && (t class.CloseBrace && (t class.Comma && (t class.Tilde && (t class.Plus && (t class.Minus && (t class.Star && (t class.Comparison && (t class.Equals && (t class.Reducing && (t class.Declares && (t class.Dots && (t class.Name && (t class.Number && (t class.Widest && (t class.Unknown && (t class.End)))))))))))))))))))))))))) (both (t class.If) (t class.Let && (t class.Turn && (t class.Protocol && (t class.Call && (t class.Store && (t class.Element && (t class.OpenBracket && (t class.CloseBracket && (t class.OpenParenthesis && (t class.CloseParenthesis && (t class.OpenBrace && (t class.CloseBrace && (t class.Comma && (t class.Tilde && (t class.Plus && (t class.Minus && (t class.Star && (t class.Comparison && (t class.Equals && (t class.Reducing && (t class.Declares && (t class.Dots && (t class.Name && (t class.Number && (t class.Widest && (t class.Unknown && (t class.End))))))))))))))))))))))))))) (both (t class.Loop) (t class.If && (t class.Let && (t class.Turn && (t class.Protocol && (t class.Call && (t class.Store && (t class.Element && (t class.OpenBracket && (t class.CloseBracket && (t class.OpenParenthesis && (t class.CloseParenthesis && (t class.OpenBrace && (t class.CloseBrace && (t class.Comma && (t class.Tilde && (t class.Plus && (t class.Minus && (t class.Star && (t class.Comparison && (t class.Equals && (t class.Reducing && (t class.Declares && (t class.Dots && (t class.Name && (t class.Number && (t class.Widest && (t class.Unknown && (t class.End)))))))))))))))))))))))))))) (both (t class.Shape) (t class.Loop && (t class.If && (t class.Let && (t class.Turn && (t class.Protocol && (t class.Call && (t class.Store && (t class.Element && (t class.OpenBracket && (t class.CloseBracket && (t class.OpenParenthesis && (t class.CloseParenthesis && (t class.OpenBrace && (t class.CloseBrace && (t class.Comma && (t class.Tilde && (t class.Plus && (t class.Minus && (t class.Star && (t class.Comparison && (t class.Equals && (t class.Reducing && (t class.Declares && (t class.Dots && (t class.Name && (t class.Number && (t class.Widest && (t class.Unknown && (t class.End))))))))))))))))))))))))))))) (both (t class.Fill) (t class.Shape && (t class.Loop && (t class.If && (t class.Let && (t class.Turn && (t class.Protocol && (t class.Call && (t class.Store && (t class.Element && (t class.OpenBracket && (t class.CloseBracket && (t class.OpenParenthesis && (t class.CloseParenthesis && (t class.OpenBrace && (t class.CloseBrace && (t class.Comma && (t class.Tilde && (t class.Plus && (t class.Minus && (t class.Star && (t class.Comparison && (t class.Equals && (t class.Reducing && (t class.Declares && (t class.Dots && (t class.Name && (t class.Number && (t class.Widest && (t class.Unknown && (t class.End)))))))))))))))))))))))))))))) (both (t class.OutOrTmp) (t class.Fill && (t class.Shape && (t class.Loop && (t class.If && (t class.Let && (t class.Turn && (t class.Protocol && (t class.Call && (t class.Store && (t class.Element && (t class.OpenBracket && (t class.CloseBracket && (t class.OpenParenthesis && (t class.CloseParenthesis && (t class.OpenBrace && (t class.CloseBrace && (t class.Comma && (t class.Tilde && (t class.Plus && (t class.Minus && (t class.Star && (t class.Comparison && (t class.Equals && (t class.Reducing && (t class.Declares && (t class.Dots && (t class.Name && (t class.Number && (t class.Widest && (t class.Unknown && (t class.End))))))))))))))))))))))))))))))) (both (t class.In) (t class.OutOrTmp && (t class.Fill && (t class.Shape && (t class.Loop && (t class.If && (t class.Let && (t class.Turn && (t class.Protocol && (t class.Call && (t class.Store && (t class.Element && (t class.OpenBracket && (t class.CloseBracket && (t class.OpenParenthesis && (t class.CloseParenthesis && (t class.OpenBrace && (t class.CloseBrace && (t class.Comma && (t class.Tilde && (t class.Plus && (t class.Minus && (t class.Star && (t class.Comparison && (t class.Equals && (t class.Reducing && (t class.Declares && (t class.Dots && (t class.Name && (t class.Number && (t class.Widest && (t class.Unknown && (t class.End)))))))))))))))))))))))))))))))) h).1).1).1).1).1).1).1).1).1).1).1).1).1).1).1).1).1).1).1).1).1).1).1).1).1).1).1).1).1).0
-at_each t h class.Widest = (both (t class.Widest) (t class.Unknown && (t class.End)) (both (t class.Number) (t class.Widest && (t class.Unknown && (t class.End))) (both (t class.Name) (t class.Number && (t class.Widest && (t class.Unknown && (t class.End)))) (both (t class.Dots) (t class.Name && (t class.Number && (t class.Widest && (t class.Unknown && (t class.End))))) (both (t class.Declares) (t class.Dots && (t class.Name && (t class.Number && (t class.Widest && (t class.Unknown && (t class.End)))))) (both (t class.Reducing) (t class.Declares && (t class.Dots && (t class.Name && (t class.Number && (t class.Widest && (t class.Unknown && (t class.End))))))) (both (t class.Equals) (t class.Reducing && (t class.Declares && (t class.Dots && (t class.Name && (t class.Number && (t class.Widest && (t class.Unknown && (t class.End)))))))) (both (t class.Comparison) (t class.Equals && (t class.Reducing && (t class.Declares && (t class.Dots && (t class.Name && (t class.Number && (t class.Widest && (t class.Unknown && (t class.End))))))))) (both (t class.Star) (t class.Comparison && (t class.Equals && (t class.Reducing && (t class.Declares && (t class.Dots && (t class.Name && (t class.Number && (t class.Widest && (t class.Unknown && (t class.End)))))))))) (both (t class.Minus) (t class.Star && (t class.Comparison && (t class.Equals && (t class.Reducing && (t class.Declares && (t class.Dots && (t class.Name && (t class.Number && (t class.Widest && (t class.Unknown && (t class.End))))))))))) (both (t class.Plus) (t class.Minus && (t class.Star && (t class.Comparison && (t class.Equals && (t class.Reducing && (t class.Declares && (t class.Dots && (t class.Name && (t class.Number && (t class.Widest && (t class.Unknown && (t class.End)))))))))))) (both (t class.Tilde) (t class.Plus && (t class.Minus && (t class.Star && (t class.Comparison && (t class.Equals && (t class.Reducing && (t class.Declares && (t class.Dots && (t class.Name && (t class.Number && (t class.Widest && (t class.Unknown && (t class.End))))))))))))) (both (t class.Comma) (t class.Tilde && (t class.Plus && (t class.Minus && (t class.Star && (t class.Comparison && (t class.Equals && (t class.Reducing && (t class.Declares && (t class.Dots && (t class.Name && (t class.Number && (t class.Widest && (t class.Unknown && (t class.End)))))))))))))) (both (t class.CloseBrace) (t class.Comma && (t class.Tilde && (t class.Plus && (t class.Minus && (t class.Star && (t class.Comparison && (t class.Equals && (t class.Reducing && (t class.Declares && (t class.Dots && (t class.Name && (t class.Number && (t class.Widest && (t class.Unknown && (t class.End))))))))))))))) (both (t class.OpenBrace) (t class.CloseBrace && (t class.Comma && (t class.Tilde && (t class.Plus && (t class.Minus && (t class.Star && (t class.Comparison && (t class.Equals && (t class.Reducing && (t class.Declares && (t class.Dots && (t class.Name && (t class.Number && (t class.Widest && (t class.Unknown && (t class.End)))))))))))))))) (both (t class.CloseParenthesis) (t class.OpenBrace && (t class.CloseBrace && (t class.Comma && (t class.Tilde && (t class.Plus && (t class.Minus && (t class.Star && (t class.Comparison && (t class.Equals && (t class.Reducing && (t class.Declares && (t class.Dots && (t class.Name && (t class.Number && (t class.Widest && (t class.Unknown && (t class.End))))))))))))))))) (both (t class.OpenParenthesis) (t class.CloseParenthesis && (t class.OpenBrace && (t class.CloseBrace && (t class.Comma && (t class.Tilde && (t class.Plus && (t class.Minus && (t class.Star && (t class.Comparison && (t class.Equals && (t class.Reducing && (t class.Declares && (t class.Dots && (t class.Name && (t class.Number && (t class.Widest && (t class.Unknown && (t class.End)))))))))))))))))) (both (t class.CloseBracket) (t class.OpenParenthesis && (t class.CloseParenthesis && (t class.OpenBrace && (t class.CloseBrace && (t class.Comma && (t class.Tilde && (t class.Plus && (t class.Minus && (t class.Star && (t class.Comparison && (t class.Equals && (t class.Reducing && (t class.Declares && (t class.Dots && (t class.Name && (t class.Number && (t class.Widest && (t class.Unknown && (t class.End))))))))))))))))))) (both (t class.OpenBracket) (t class.CloseBracket && (t class.OpenParenthesis && (t class.CloseParenthesis && (t class.OpenBrace && (t class.CloseBrace && (t class.Comma && (t class.Tilde && (t class.Plus && (t class.Minus && (t class.Star && (t class.Comparison && (t class.Equals && (t class.Reducing && (t class.Declares && (t class.Dots && (t class.Name && (t class.Number && (t class.Widest && (t class.Unknown && (t class.End)))))))))))))))))))) (both (t class.Element) (t class.OpenBracket && (t class.CloseBracket && (t class.OpenParenthesis && (t class.CloseParenthesis && (t class.OpenBrace && (t class.CloseBrace && (t class.Comma && (t class.Tilde && (t class.Plus && (t class.Minus && (t class.Star && (t class.Comparison && (t class.Equals && (t class.Reducing && (t class.Declares && (t class.Dots && (t class.Name && (t class.Number && (t class.Widest && (t class.Unknown && (t class.End))))))))))))))))))))) (both (t class.Store) (t class.Element && (t class.OpenBracket && (t class.CloseBracket && (t class.OpenParenthesis && (t class.CloseParenthesis && (t class.OpenBrace && (t class.CloseBrace && (t class.Comma && (t class.Tilde && (t class.Plus && (t class.Minus && (t class.Star && (t class.Comparison && (t class.Equals && (t class.Reducing && (t class.Declares && (t class.Dots && (t class.Name && (t class.Number && (t class.Widest && (t class.Unknown && (t class.End)))))))))))))))))))))) (both (t class.Call) (t class.Store && (t class.Element && (t class.OpenBracket && (t class.CloseBracket && (t class.OpenParenthesis && (t class.CloseParenthesis && (t class.OpenBrace && (t class.CloseBrace && (t class.Comma && (t class.Tilde && (t class.Plus && (t class.Minus && (t class.Star && (t class.Comparison && (t class.Equals && (t class.Reducing && (t class.Declares && (t class.Dots && (t class.Name && (t class.Number && (t class.Widest && (t class.Unknown && (t class.End))))))))))))))))))))))) (both (t class.Protocol) (t class.Call && (t class.Store && (t class.Element && (t class.OpenBracket && (t class.CloseBracket && (t class.OpenParenthesis && (t class.CloseParenthesis && (t class.OpenBrace && (t class.CloseBrace && (t class.Comma && (t class.Tilde && (t class.Plus && (t class.Minus && (t class.Star && (t class.Comparison && (t class.Equals && (t class.Reducing && (t class.Declares && (t class.Dots && (t class.Name && (t class.Number && (t class.Widest && (t class.Unknown && (t class.End)))))))))))))))))))))))) (both (t class.Turn) (t class.Protocol && (t class.Call && (t class.Store && (t class.Element && (t class.OpenBracket && (t class.CloseBracket && (t class.OpenParenthesis && (t class.CloseParenthesis && (t class.OpenBrace && (t class.CloseBrace && (t class.Comma && (t class.Tilde && (t class.Plus && (t class.Minus && (t class.Star && (t class.Comparison && (t class.Equals && (t class.Reducing && (t class.Declares && (t class.Dots && (t class.Name && (t class.Number && (t class.Widest && (t class.Unknown && (t class.End))))))))))))))))))))))))) (both (t class.Let) (t class.Turn && (t class.Protocol && (t class.Call && (t class.Store && (t class.Element && (t class.OpenBracket && (t class.CloseBracket && (t class.OpenParenthesis && (t class.CloseParenthesis && (t class.OpenBrace && (t class.CloseBrace && (t class.Comma && (t class.Tilde && (t class.Plus && (t class.Minus && (t class.Star && (t class.Comparison && (t class.Equals && (t class.Reducing && (t class.Declares && (t class.Dots && (t class.Name && (t class.Number && (t class.Widest && (t class.Unknown && (t class.End)))))))))))))))))))))))))) (both (t class.If) (t class.Let && (t class.Turn && (t class.Protocol && (t class.Call && (t class.Store && (t class.Element && (t class.OpenBracket && (t class.CloseBracket && (t class.OpenParenthesis && (t class.CloseParenthesis && (t class.OpenBrace && (t class.CloseBrace && (t class.Comma && (t class.Tilde && (t class.Plus && (t class.Minus && (t class.Star && (t class.Comparison && (t class.Equals && (t class.Reducing && (t class.Declares && (t class.Dots && (t class.Name && (t class.Number && (t class.Widest && (t class.Unknown && (t class.End))))))))))))))))))))))))))) (both (t class.Loop) (t class.If && (t class.Let && (t class.Turn && (t class.Protocol && (t class.Call && (t class.Store && (t class.Element && (t class.OpenBracket && (t class.CloseBracket && (t class.OpenParenthesis && (t class.CloseParenthesis && (t class.OpenBrace && (t class.CloseBrace && (t class.Comma && (t class.Tilde && (t class.Plus && (t class.Minus && (t class.Star && (t class.Comparison && (t class.Equals && (t class.Reducing && (t class.Declares && (t class.Dots && (t class.Name && (t class.Number && (t class.Widest && (t class.Unknown && (t class.End)))))))))))))))))))))))))))) (both (t class.Shape) (t class.Loop && (t class.If && (t class.Let && (t class.Turn && (t class.Protocol && (t class.Call && (t class.Store && (t class.Element && (t class.OpenBracket && (t class.CloseBracket && (t class.OpenParenthesis && (t class.CloseParenthesis && (t class.OpenBrace && (t class.CloseBrace && (t class.Comma && (t class.Tilde && (t class.Plus && (t class.Minus && (t class.Star && (t class.Comparison && (t class.Equals && (t class.Reducing && (t class.Declares && (t class.Dots && (t class.Name && (t class.Number && (t class.Widest && (t class.Unknown && (t class.End))))))))))))))))))))))))))))) (both (t class.Fill) (t class.Shape && (t class.Loop && (t class.If && (t class.Let && (t class.Turn && (t class.Protocol && (t class.Call && (t class.Store && (t class.Element && (t class.OpenBracket && (t class.CloseBracket && (t class.OpenParenthesis && (t class.CloseParenthesis && (t class.OpenBrace && (t class.CloseBrace && (t class.Comma && (t class.Tilde && (t class.Plus && (t class.Minus && (t class.Star && (t class.Comparison && (t class.Equals && (t class.Reducing && (t class.Declares && (t class.Dots && (t class.Name && (t class.Number && (t class.Widest && (t class.Unknown && (t class.End)))))))))))))))))))))))))))))) (both (t class.OutOrTmp) (t class.Fill && (t class.Shape && (t class.Loop && (t class.If && (t class.Let && (t class.Turn && (t class.Protocol && (t class.Call && (t class.Store && (t class.Element && (t class.OpenBracket && (t class.CloseBracket && (t class.OpenParenthesis && (t class.CloseParenthesis && (t class.OpenBrace && (t class.CloseBrace && (t class.Comma && (t class.Tilde && (t class.Plus && (t class.Minus && (t class.Star && (t class.Comparison && (t class.Equals && (t class.Reducing && (t class.Declares && (t class.Dots && (t class.Name && (t class.Number && (t class.Widest && (t class.Unknown && (t class.End))))))))))))))))))))))))))))))) (both (t class.In) (t class.OutOrTmp && (t class.Fill && (t class.Shape && (t class.Loop && (t class.If && (t class.Let && (t class.Turn && (t class.Protocol && (t class.Call && (t class.Store && (t class.Element && (t class.OpenBracket && (t class.CloseBracket && (t class.OpenParenthesis && (t class.CloseParenthesis && (t class.OpenBrace && (t class.CloseBrace && (t class.Comma && (t class.Tilde && (t class.Plus && (t class.Minus && (t class.Star && (t class.Comparison && (t class.Equals && (t class.Reducing && (t class.Declares && (t class.Dots && (t class.Name && (t class.Number && (t class.Widest && (t class.Unknown && (t class.End)))))))))))))))))))))))))))))))) h).1).1).1).1).1).1).1).1).1).1).1).1).1).1).1).1).1).1).1).1).1).1).1).1).1).1).1).1).1).1).0
-at_each t h class.Unknown = (both (t class.Unknown) (t class.End) (both (t class.Widest) (t class.Unknown && (t class.End)) (both (t class.Number) (t class.Widest && (t class.Unknown && (t class.End))) (both (t class.Name) (t class.Number && (t class.Widest && (t class.Unknown && (t class.End)))) (both (t class.Dots) (t class.Name && (t class.Number && (t class.Widest && (t class.Unknown && (t class.End))))) (both (t class.Declares) (t class.Dots && (t class.Name && (t class.Number && (t class.Widest && (t class.Unknown && (t class.End)))))) (both (t class.Reducing) (t class.Declares && (t class.Dots && (t class.Name && (t class.Number && (t class.Widest && (t class.Unknown && (t class.End))))))) (both (t class.Equals) (t class.Reducing && (t class.Declares && (t class.Dots && (t class.Name && (t class.Number && (t class.Widest && (t class.Unknown && (t class.End)))))))) (both (t class.Comparison) (t class.Equals && (t class.Reducing && (t class.Declares && (t class.Dots && (t class.Name && (t class.Number && (t class.Widest && (t class.Unknown && (t class.End))))))))) (both (t class.Star) (t class.Comparison && (t class.Equals && (t class.Reducing && (t class.Declares && (t class.Dots && (t class.Name && (t class.Number && (t class.Widest && (t class.Unknown && (t class.End)))))))))) (both (t class.Minus) (t class.Star && (t class.Comparison && (t class.Equals && (t class.Reducing && (t class.Declares && (t class.Dots && (t class.Name && (t class.Number && (t class.Widest && (t class.Unknown && (t class.End))))))))))) (both (t class.Plus) (t class.Minus && (t class.Star && (t class.Comparison && (t class.Equals && (t class.Reducing && (t class.Declares && (t class.Dots && (t class.Name && (t class.Number && (t class.Widest && (t class.Unknown && (t class.End)))))))))))) (both (t class.Tilde) (t class.Plus && (t class.Minus && (t class.Star && (t class.Comparison && (t class.Equals && (t class.Reducing && (t class.Declares && (t class.Dots && (t class.Name && (t class.Number && (t class.Widest && (t class.Unknown && (t class.End))))))))))))) (both (t class.Comma) (t class.Tilde && (t class.Plus && (t class.Minus && (t class.Star && (t class.Comparison && (t class.Equals && (t class.Reducing && (t class.Declares && (t class.Dots && (t class.Name && (t class.Number && (t class.Widest && (t class.Unknown && (t class.End)))))))))))))) (both (t class.CloseBrace) (t class.Comma && (t class.Tilde && (t class.Plus && (t class.Minus && (t class.Star && (t class.Comparison && (t class.Equals && (t class.Reducing && (t class.Declares && (t class.Dots && (t class.Name && (t class.Number && (t class.Widest && (t class.Unknown && (t class.End))))))))))))))) (both (t class.OpenBrace) (t class.CloseBrace && (t class.Comma && (t class.Tilde && (t class.Plus && (t class.Minus && (t class.Star && (t class.Comparison && (t class.Equals && (t class.Reducing && (t class.Declares && (t class.Dots && (t class.Name && (t class.Number && (t class.Widest && (t class.Unknown && (t class.End)))))))))))))))) (both (t class.CloseParenthesis) (t class.OpenBrace && (t class.CloseBrace && (t class.Comma && (t class.Tilde && (t class.Plus && (t class.Minus && (t class.Star && (t class.Comparison && (t class.Equals && (t class.Reducing && (t class.Declares && (t class.Dots && (t class.Name && (t class.Number && (t class.Widest && (t class.Unknown && (t class.End))))))))))))))))) (both (t class.OpenParenthesis) (t class.CloseParenthesis && (t class.OpenBrace && (t class.CloseBrace && (t class.Comma && (t class.Tilde && (t class.Plus && (t class.Minus && (t class.Star && (t class.Comparison && (t class.Equals && (t class.Reducing && (t class.Declares && (t class.Dots && (t class.Name && (t class.Number && (t class.Widest && (t class.Unknown && (t class.End)))))))))))))))))) (both (t class.CloseBracket) (t class.OpenParenthesis && (t class.CloseParenthesis && (t class.OpenBrace && (t class.CloseBrace && (t class.Comma && (t class.Tilde && (t class.Plus && (t class.Minus && (t class.Star && (t class.Comparison && (t class.Equals && (t class.Reducing && (t class.Declares && (t class.Dots && (t class.Name && (t class.Number && (t class.Widest && (t class.Unknown && (t class.End))))))))))))))))))) (both (t class.OpenBracket) (t class.CloseBracket && (t class.OpenParenthesis && (t class.CloseParenthesis && (t class.OpenBrace && (t class.CloseBrace && (t class.Comma && (t class.Tilde && (t class.Plus && (t class.Minus && (t class.Star && (t class.Comparison && (t class.Equals && (t class.Reducing && (t class.Declares && (t class.Dots && (t class.Name && (t class.Number && (t class.Widest && (t class.Unknown && (t class.End)))))))))))))))))))) (both (t class.Element) (t class.OpenBracket && (t class.CloseBracket && (t class.OpenParenthesis && (t class.CloseParenthesis && (t class.OpenBrace && (t class.CloseBrace && (t class.Comma && (t class.Tilde && (t class.Plus && (t class.Minus && (t class.Star && (t class.Comparison && (t class.Equals && (t class.Reducing && (t class.Declares && (t class.Dots && (t class.Name && (t class.Number && (t class.Widest && (t class.Unknown && (t class.End))))))))))))))))))))) (both (t class.Store) (t class.Element && (t class.OpenBracket && (t class.CloseBracket && (t class.OpenParenthesis && (t class.CloseParenthesis && (t class.OpenBrace && (t class.CloseBrace && (t class.Comma && (t class.Tilde && (t class.Plus && (t class.Minus && (t class.Star && (t class.Comparison && (t class.Equals && (t class.Reducing && (t class.Declares && (t class.Dots && (t class.Name && (t class.Number && (t class.Widest && (t class.Unknown && (t class.End)))))))))))))))))))))) (both (t class.Call) (t class.Store && (t class.Element && (t class.OpenBracket && (t class.CloseBracket && (t class.OpenParenthesis && (t class.CloseParenthesis && (t class.OpenBrace && (t class.CloseBrace && (t class.Comma && (t class.Tilde && (t class.Plus && (t class.Minus && (t class.Star && (t class.Comparison && (t class.Equals && (t class.Reducing && (t class.Declares && (t class.Dots && (t class.Name && (t class.Number && (t class.Widest && (t class.Unknown && (t class.End))))))))))))))))))))))) (both (t class.Protocol) (t class.Call && (t class.Store && (t class.Element && (t class.OpenBracket && (t class.CloseBracket && (t class.OpenParenthesis && (t class.CloseParenthesis && (t class.OpenBrace && (t class.CloseBrace && (t class.Comma && (t class.Tilde && (t class.Plus && (t class.Minus && (t class.Star && (t class.Comparison && (t class.Equals && (t class.Reducing && (t class.Declares && (t class.Dots && (t class.Name && (t class.Number && (t class.Widest && (t class.Unknown && (t class.End)))))))))))))))))))))))) (both (t class.Turn) (t class.Protocol && (t class.Call && (t class.Store && (t class.Element && (t class.OpenBracket && (t class.CloseBracket && (t class.OpenParenthesis && (t class.CloseParenthesis && (t class.OpenBrace && (t class.CloseBrace && (t class.Comma && (t class.Tilde && (t class.Plus && (t class.Minus && (t class.Star && (t class.Comparison && (t class.Equals && (t class.Reducing && (t class.Declares && (t class.Dots && (t class.Name && (t class.Number && (t class.Widest && (t class.Unknown && (t class.End))))))))))))))))))))))))) (both (t class.Let) (t class.Turn && (t class.Protocol && (t class.Call && (t class.Store && (t class.Element && (t class.OpenBracket && (t class.CloseBracket && (t class.OpenParenthesis && (t class.CloseParenthesis && (t class.OpenBrace && (t class.CloseBrace && (t class.Comma && (t class.Tilde && (t class.Plus && (t class.Minus && (t class.Star && (t class.Comparison && (t class.Equals && (t class.Reducing && (t class.Declares && (t class.Dots && (t class.Name && (t class.Number && (t class.Widest && (t class.Unknown && (t class.End)))))))))))))))))))))))))) (both (t class.If) (t class.Let && (t class.Turn && (t class.Protocol && (t class.Call && (t class.Store && (t class.Element && (t class.OpenBracket && (t class.CloseBracket && (t class.OpenParenthesis && (t class.CloseParenthesis && (t class.OpenBrace && (t class.CloseBrace && (t class.Comma && (t class.Tilde && (t class.Plus && (t class.Minus && (t class.Star && (t class.Comparison && (t class.Equals && (t class.Reducing && (t class.Declares && (t class.Dots && (t class.Name && (t class.Number && (t class.Widest && (t class.Unknown && (t class.End))))))))))))))))))))))))))) (both (t class.Loop) (t class.If && (t class.Let && (t class.Turn && (t class.Protocol && (t class.Call && (t class.Store && (t class.Element && (t class.OpenBracket && (t class.CloseBracket && (t class.OpenParenthesis && (t class.CloseParenthesis && (t class.OpenBrace && (t class.CloseBrace && (t class.Comma && (t class.Tilde && (t class.Plus && (t class.Minus && (t class.Star && (t class.Comparison && (t class.Equals && (t class.Reducing && (t class.Declares && (t class.Dots && (t class.Name && (t class.Number && (t class.Widest && (t class.Unknown && (t class.End)))))))))))))))))))))))))))) (both (t class.Shape) (t class.Loop && (t class.If && (t class.Let && (t class.Turn && (t class.Protocol && (t class.Call && (t class.Store && (t class.Element && (t class.OpenBracket && (t class.CloseBracket && (t class.OpenParenthesis && (t class.CloseParenthesis && (t class.OpenBrace && (t class.CloseBrace && (t class.Comma && (t class.Tilde && (t class.Plus && (t class.Minus && (t class.Star && (t class.Comparison && (t class.Equals && (t class.Reducing && (t class.Declares && (t class.Dots && (t class.Name && (t class.Number && (t class.Widest && (t class.Unknown && (t class.End))))))))))))))))))))))))))))) (both (t class.Fill) (t class.Shape && (t class.Loop && (t class.If && (t class.Let && (t class.Turn && (t class.Protocol && (t class.Call && (t class.Store && (t class.Element && (t class.OpenBracket && (t class.CloseBracket && (t class.OpenParenthesis && (t class.CloseParenthesis && (t class.OpenBrace && (t class.CloseBrace && (t class.Comma && (t class.Tilde && (t class.Plus && (t class.Minus && (t class.Star && (t class.Comparison && (t class.Equals && (t class.Reducing && (t class.Declares && (t class.Dots && (t class.Name && (t class.Number && (t class.Widest && (t class.Unknown && (t class.End)))))))))))))))))))))))))))))) (both (t class.OutOrTmp) (t class.Fill && (t class.Shape && (t class.Loop && (t class.If && (t class.Let && (t class.Turn && (t class.Protocol && (t class.Call && (t class.Store && (t class.Element && (t class.OpenBracket && (t class.CloseBracket && (t class.OpenParenthesis && (t class.CloseParenthesis && (t class.OpenBrace && (t class.CloseBrace && (t class.Comma && (t class.Tilde && (t class.Plus && (t class.Minus && (t class.Star && (t class.Comparison && (t class.Equals && (t class.Reducing && (t class.Declares && (t class.Dots && (t class.Name && (t class.Number && (t class.Widest && (t class.Unknown && (t class.End))))))))))))))))))))))))))))))) (both (t class.In) (t class.OutOrTmp && (t class.Fill && (t class.Shape && (t class.Loop && (t class.If && (t class.Let && (t class.Turn && (t class.Protocol && (t class.Call && (t class.Store && (t class.Element && (t class.OpenBracket && (t class.CloseBracket && (t class.OpenParenthesis && (t class.CloseParenthesis && (t class.OpenBrace && (t class.CloseBrace && (t class.Comma && (t class.Tilde && (t class.Plus && (t class.Minus && (t class.Star && (t class.Comparison && (t class.Equals && (t class.Reducing && (t class.Declares && (t class.Dots && (t class.Name && (t class.Number && (t class.Widest && (t class.Unknown && (t class.End)))))))))))))))))))))))))))))))) h).1).1).1).1).1).1).1).1).1).1).1).1).1).1).1).1).1).1).1).1).1).1).1).1).1).1).1).1).1).1).1).0
-at_each t h class.End = (both (t class.Unknown) (t class.End) (both (t class.Widest) (t class.Unknown && (t class.End)) (both (t class.Number) (t class.Widest && (t class.Unknown && (t class.End))) (both (t class.Name) (t class.Number && (t class.Widest && (t class.Unknown && (t class.End)))) (both (t class.Dots) (t class.Name && (t class.Number && (t class.Widest && (t class.Unknown && (t class.End))))) (both (t class.Declares) (t class.Dots && (t class.Name && (t class.Number && (t class.Widest && (t class.Unknown && (t class.End)))))) (both (t class.Reducing) (t class.Declares && (t class.Dots && (t class.Name && (t class.Number && (t class.Widest && (t class.Unknown && (t class.End))))))) (both (t class.Equals) (t class.Reducing && (t class.Declares && (t class.Dots && (t class.Name && (t class.Number && (t class.Widest && (t class.Unknown && (t class.End)))))))) (both (t class.Comparison) (t class.Equals && (t class.Reducing && (t class.Declares && (t class.Dots && (t class.Name && (t class.Number && (t class.Widest && (t class.Unknown && (t class.End))))))))) (both (t class.Star) (t class.Comparison && (t class.Equals && (t class.Reducing && (t class.Declares && (t class.Dots && (t class.Name && (t class.Number && (t class.Widest && (t class.Unknown && (t class.End)))))))))) (both (t class.Minus) (t class.Star && (t class.Comparison && (t class.Equals && (t class.Reducing && (t class.Declares && (t class.Dots && (t class.Name && (t class.Number && (t class.Widest && (t class.Unknown && (t class.End))))))))))) (both (t class.Plus) (t class.Minus && (t class.Star && (t class.Comparison && (t class.Equals && (t class.Reducing && (t class.Declares && (t class.Dots && (t class.Name && (t class.Number && (t class.Widest && (t class.Unknown && (t class.End)))))))))))) (both (t class.Tilde) (t class.Plus && (t class.Minus && (t class.Star && (t class.Comparison && (t class.Equals && (t class.Reducing && (t class.Declares && (t class.Dots && (t class.Name && (t class.Number && (t class.Widest && (t class.Unknown && (t class.End))))))))))))) (both (t class.Comma) (t class.Tilde && (t class.Plus && (t class.Minus && (t class.Star && (t class.Comparison && (t class.Equals && (t class.Reducing && (t class.Declares && (t class.Dots && (t class.Name && (t class.Number && (t class.Widest && (t class.Unknown && (t class.End)))))))))))))) (both (t class.CloseBrace) (t class.Comma && (t class.Tilde && (t class.Plus && (t class.Minus && (t class.Star && (t class.Comparison && (t class.Equals && (t class.Reducing && (t class.Declares && (t class.Dots && (t class.Name && (t class.Number && (t class.Widest && (t class.Unknown && (t class.End))))))))))))))) (both (t class.OpenBrace) (t class.CloseBrace && (t class.Comma && (t class.Tilde && (t class.Plus && (t class.Minus && (t class.Star && (t class.Comparison && (t class.Equals && (t class.Reducing && (t class.Declares && (t class.Dots && (t class.Name && (t class.Number && (t class.Widest && (t class.Unknown && (t class.End)))))))))))))))) (both (t class.CloseParenthesis) (t class.OpenBrace && (t class.CloseBrace && (t class.Comma && (t class.Tilde && (t class.Plus && (t class.Minus && (t class.Star && (t class.Comparison && (t class.Equals && (t class.Reducing && (t class.Declares && (t class.Dots && (t class.Name && (t class.Number && (t class.Widest && (t class.Unknown && (t class.End))))))))))))))))) (both (t class.OpenParenthesis) (t class.CloseParenthesis && (t class.OpenBrace && (t class.CloseBrace && (t class.Comma && (t class.Tilde && (t class.Plus && (t class.Minus && (t class.Star && (t class.Comparison && (t class.Equals && (t class.Reducing && (t class.Declares && (t class.Dots && (t class.Name && (t class.Number && (t class.Widest && (t class.Unknown && (t class.End)))))))))))))))))) (both (t class.CloseBracket) (t class.OpenParenthesis && (t class.CloseParenthesis && (t class.OpenBrace && (t class.CloseBrace && (t class.Comma && (t class.Tilde && (t class.Plus && (t class.Minus && (t class.Star && (t class.Comparison && (t class.Equals && (t class.Reducing && (t class.Declares && (t class.Dots && (t class.Name && (t class.Number && (t class.Widest && (t class.Unknown && (t class.End))))))))))))))))))) (both (t class.OpenBracket) (t class.CloseBracket && (t class.OpenParenthesis && (t class.CloseParenthesis && (t class.OpenBrace && (t class.CloseBrace && (t class.Comma && (t class.Tilde && (t class.Plus && (t class.Minus && (t class.Star && (t class.Comparison && (t class.Equals && (t class.Reducing && (t class.Declares && (t class.Dots && (t class.Name && (t class.Number && (t class.Widest && (t class.Unknown && (t class.End)))))))))))))))))))) (both (t class.Element) (t class.OpenBracket && (t class.CloseBracket && (t class.OpenParenthesis && (t class.CloseParenthesis && (t class.OpenBrace && (t class.CloseBrace && (t class.Comma && (t class.Tilde && (t class.Plus && (t class.Minus && (t class.Star && (t class.Comparison && (t class.Equals && (t class.Reducing && (t class.Declares && (t class.Dots && (t class.Name && (t class.Number && (t class.Widest && (t class.Unknown && (t class.End))))))))))))))))))))) (both (t class.Store) (t class.Element && (t class.OpenBracket && (t class.CloseBracket && (t class.OpenParenthesis && (t class.CloseParenthesis && (t class.OpenBrace && (t class.CloseBrace && (t class.Comma && (t class.Tilde && (t class.Plus && (t class.Minus && (t class.Star && (t class.Comparison && (t class.Equals && (t class.Reducing && (t class.Declares && (t class.Dots && (t class.Name && (t class.Number && (t class.Widest && (t class.Unknown && (t class.End)))))))))))))))))))))) (both (t class.Call) (t class.Store && (t class.Element && (t class.OpenBracket && (t class.CloseBracket && (t class.OpenParenthesis && (t class.CloseParenthesis && (t class.OpenBrace && (t class.CloseBrace && (t class.Comma && (t class.Tilde && (t class.Plus && (t class.Minus && (t class.Star && (t class.Comparison && (t class.Equals && (t class.Reducing && (t class.Declares && (t class.Dots && (t class.Name && (t class.Number && (t class.Widest && (t class.Unknown && (t class.End))))))))))))))))))))))) (both (t class.Protocol) (t class.Call && (t class.Store && (t class.Element && (t class.OpenBracket && (t class.CloseBracket && (t class.OpenParenthesis && (t class.CloseParenthesis && (t class.OpenBrace && (t class.CloseBrace && (t class.Comma && (t class.Tilde && (t class.Plus && (t class.Minus && (t class.Star && (t class.Comparison && (t class.Equals && (t class.Reducing && (t class.Declares && (t class.Dots && (t class.Name && (t class.Number && (t class.Widest && (t class.Unknown && (t class.End)))))))))))))))))))))))) (both (t class.Turn) (t class.Protocol && (t class.Call && (t class.Store && (t class.Element && (t class.OpenBracket && (t class.CloseBracket && (t class.OpenParenthesis && (t class.CloseParenthesis && (t class.OpenBrace && (t class.CloseBrace && (t class.Comma && (t class.Tilde && (t class.Plus && (t class.Minus && (t class.Star && (t class.Comparison && (t class.Equals && (t class.Reducing && (t class.Declares && (t class.Dots && (t class.Name && (t class.Number && (t class.Widest && (t class.Unknown && (t class.End))))))))))))))))))))))))) (both (t class.Let) (t class.Turn && (t class.Protocol && (t class.Call && (t class.Store && (t class.Element && (t class.OpenBracket && (t class.CloseBracket && (t class.OpenParenthesis && (t class.CloseParenthesis && (t class.OpenBrace && (t class.CloseBrace && (t class.Comma && (t class.Tilde && (t class.Plus && (t class.Minus && (t class.Star && (t class.Comparison && (t class.Equals && (t class.Reducing && (t class.Declares && (t class.Dots && (t class.Name && (t class.Number && (t class.Widest && (t class.Unknown && (t class.End)))))))))))))))))))))))))) (both (t class.If) (t class.Let && (t class.Turn && (t class.Protocol && (t class.Call && (t class.Store && (t class.Element && (t class.OpenBracket && (t class.CloseBracket && (t class.OpenParenthesis && (t class.CloseParenthesis && (t class.OpenBrace && (t class.CloseBrace && (t class.Comma && (t class.Tilde && (t class.Plus && (t class.Minus && (t class.Star && (t class.Comparison && (t class.Equals && (t class.Reducing && (t class.Declares && (t class.Dots && (t class.Name && (t class.Number && (t class.Widest && (t class.Unknown && (t class.End))))))))))))))))))))))))))) (both (t class.Loop) (t class.If && (t class.Let && (t class.Turn && (t class.Protocol && (t class.Call && (t class.Store && (t class.Element && (t class.OpenBracket && (t class.CloseBracket && (t class.OpenParenthesis && (t class.CloseParenthesis && (t class.OpenBrace && (t class.CloseBrace && (t class.Comma && (t class.Tilde && (t class.Plus && (t class.Minus && (t class.Star && (t class.Comparison && (t class.Equals && (t class.Reducing && (t class.Declares && (t class.Dots && (t class.Name && (t class.Number && (t class.Widest && (t class.Unknown && (t class.End)))))))))))))))))))))))))))) (both (t class.Shape) (t class.Loop && (t class.If && (t class.Let && (t class.Turn && (t class.Protocol && (t class.Call && (t class.Store && (t class.Element && (t class.OpenBracket && (t class.CloseBracket && (t class.OpenParenthesis && (t class.CloseParenthesis && (t class.OpenBrace && (t class.CloseBrace && (t class.Comma && (t class.Tilde && (t class.Plus && (t class.Minus && (t class.Star && (t class.Comparison && (t class.Equals && (t class.Reducing && (t class.Declares && (t class.Dots && (t class.Name && (t class.Number && (t class.Widest && (t class.Unknown && (t class.End))))))))))))))))))))))))))))) (both (t class.Fill) (t class.Shape && (t class.Loop && (t class.If && (t class.Let && (t class.Turn && (t class.Protocol && (t class.Call && (t class.Store && (t class.Element && (t class.OpenBracket && (t class.CloseBracket && (t class.OpenParenthesis && (t class.CloseParenthesis && (t class.OpenBrace && (t class.CloseBrace && (t class.Comma && (t class.Tilde && (t class.Plus && (t class.Minus && (t class.Star && (t class.Comparison && (t class.Equals && (t class.Reducing && (t class.Declares && (t class.Dots && (t class.Name && (t class.Number && (t class.Widest && (t class.Unknown && (t class.End)))))))))))))))))))))))))))))) (both (t class.OutOrTmp) (t class.Fill && (t class.Shape && (t class.Loop && (t class.If && (t class.Let && (t class.Turn && (t class.Protocol && (t class.Call && (t class.Store && (t class.Element && (t class.OpenBracket && (t class.CloseBracket && (t class.OpenParenthesis && (t class.CloseParenthesis && (t class.OpenBrace && (t class.CloseBrace && (t class.Comma && (t class.Tilde && (t class.Plus && (t class.Minus && (t class.Star && (t class.Comparison && (t class.Equals && (t class.Reducing && (t class.Declares && (t class.Dots && (t class.Name && (t class.Number && (t class.Widest && (t class.Unknown && (t class.End))))))))))))))))))))))))))))))) (both (t class.In) (t class.OutOrTmp && (t class.Fill && (t class.Shape && (t class.Loop && (t class.If && (t class.Let && (t class.Turn && (t class.Protocol && (t class.Call && (t class.Store && (t class.Element && (t class.OpenBracket && (t class.CloseBracket && (t class.OpenParenthesis && (t class.CloseParenthesis && (t class.OpenBrace && (t class.CloseBrace && (t class.Comma && (t class.Tilde && (t class.Plus && (t class.Minus && (t class.Star && (t class.Comparison && (t class.Equals && (t class.Reducing && (t class.Declares && (t class.Dots && (t class.Name && (t class.Number && (t class.Widest && (t class.Unknown && (t class.End)))))))))))))))))))))))))))))))) h).1).1).1).1).1).1).1).1).1).1).1).1).1).1).1).1).1).1).1).1).1).1).1).1).1).1).1).1).1).1).1).1
+-- what holds of a whole list holds of what stands in it
+at_place : {A : Type 0} (t : A → Bool) (xs : List A) (k : ℕ) (x : A) → slice_get xs k ≡ Some x → list_all t xs ≡ true → t x ≡ true
+at_place t [] k x e h = absurd (cc)
+at_place t (y ∷ xs) zero x e h = subst (λ z. t z ≡ true) (some_same e) (both (t y) (list_all t xs) h).0
+at_place t (y ∷ xs) (suc k) x e h = at_place t xs k x e (both (t y) (list_all t xs) h).1
 
--- ---- forms by number
+abbrev class_number : Class → ℕ
+class_number class.In = 0
+class_number class.OutOrTmp = 1
+class_number class.Fill = 2
+class_number class.Shape = 3
+class_number class.Loop = 4
+class_number class.If = 5
+class_number class.Let = 6
+class_number class.Turn = 7
+class_number class.Protocol = 8
+class_number class.Call = 9
+class_number class.Store = 10
+class_number class.Element = 11
+class_number class.OpenBracket = 12
+class_number class.CloseBracket = 13
+class_number class.OpenParenthesis = 14
+class_number class.CloseParenthesis = 15
+class_number class.OpenBrace = 16
+class_number class.CloseBrace = 17
+class_number class.Comma = 18
+class_number class.Tilde = 19
+class_number class.Plus = 20
+class_number class.Minus = 21
+class_number class.Star = 22
+class_number class.Comparison = 23
+class_number class.Equals = 24
+class_number class.Reducing = 25
+class_number class.Declares = 26
+class_number class.Dots = 27
+class_number class.Name = 28
+class_number class.Number = 29
+class_number class.Widest = 30
+class_number class.Unknown = 31
+class_number class.End = 32
 
-abbrev number_of : Form → ℕ
-number_of form.InputHeader = 0
-number_of form.OtherHeader = 1
-number_of form.Format = 2
-number_of form.StoreWord = 3
-number_of form.Fill = 4
-number_of form.Shape = 5
-number_of form.Extent = 6
-number_of form.PlusInt = 7
-number_of form.MinusInt = 8
-number_of form.Magnitude = 9
-number_of form.WidestMagnitude = 10
-number_of form.Loop = 11
-number_of form.If = 12
-number_of form.Let = 13
-number_of form.Block = 14
-number_of form.Turn = 15
-number_of form.Named = 16
-number_of form.Turns = 17
-number_of form.Range = 18
-number_of form.Body = 19
-number_of form.Stmts = 20
-number_of form.Declaration = 21
-number_of form.Update = 22
-number_of form.Reducing = 23
-number_of form.Putting = 24
-number_of form.Plains = 25
-number_of form.PlainList = 26
-number_of form.NextPlain = 27
-number_of form.Constant = 28
-number_of form.Shifted = 29
-number_of form.PlusOffset = 30
-number_of form.MinusOffset = 31
-number_of form.Expr = 32
-number_of form.Compared = 33
-number_of form.Sum = 34
-number_of form.PlusTerm = 35
-number_of form.MinusTerm = 36
-number_of form.Term = 37
-number_of form.NextUnary = 38
-number_of form.NumberUnary = 39
-number_of form.OtherUnary = 40
-number_of form.Negation = 41
-number_of form.NamedOperand = 42
-number_of form.Parentheses = 43
-number_of form.Call = 44
-number_of form.NegatedNumber = 45
-number_of form.NegatedWidest = 46
-number_of form.NegatedOperand = 47
-number_of form.Pair = 48
-number_of form.Access = 49
-number_of form.Indices = 50
-number_of form.IndexList = 51
-number_of form.NextIndex = 52
-number_of form.BareIndex = 53
-number_of form.ProtocolIndex = 54
-number_of form.PlainCore = 55
-number_of form.LooseCore = 56
-number_of form.LooseConstant = 57
-number_of form.LooseNamed = 58
-number_of form.PlusRest = 59
-number_of form.MinusRest = 60
-number_of form.AddedNumber = 61
-number_of form.AddedName = 62
+abbrev classes : List Class
+classes =
+    class.In ∷ class.OutOrTmp ∷ class.Fill ∷ class.Shape ∷ class.Loop ∷ class.If ∷ class.Let ∷ class.Turn ∷ class.Protocol ∷ class.Call ∷
+    class.Store ∷ class.Element ∷ class.OpenBracket ∷ class.CloseBracket ∷ class.OpenParenthesis ∷ class.CloseParenthesis ∷ class.OpenBrace ∷
+    class.CloseBrace ∷ class.Comma ∷ class.Tilde ∷ class.Plus ∷ class.Minus ∷ class.Star ∷ class.Comparison ∷ class.Equals ∷ class.Reducing ∷
+    class.Declares ∷ class.Dots ∷ class.Name ∷ class.Number ∷ class.Widest ∷ class.Unknown ∷ class.End ∷ []
+
+class_listed : (x : Class) → slice_get classes (class_number x) ≡ Some x
+class_listed class.In = refl
+class_listed class.OutOrTmp = refl
+class_listed class.Fill = refl
+class_listed class.Shape = refl
+class_listed class.Loop = refl
+class_listed class.If = refl
+class_listed class.Let = refl
+class_listed class.Turn = refl
+class_listed class.Protocol = refl
+class_listed class.Call = refl
+class_listed class.Store = refl
+class_listed class.Element = refl
+class_listed class.OpenBracket = refl
+class_listed class.CloseBracket = refl
+class_listed class.OpenParenthesis = refl
+class_listed class.CloseParenthesis = refl
+class_listed class.OpenBrace = refl
+class_listed class.CloseBrace = refl
+class_listed class.Comma = refl
+class_listed class.Tilde = refl
+class_listed class.Plus = refl
+class_listed class.Minus = refl
+class_listed class.Star = refl
+class_listed class.Comparison = refl
+class_listed class.Equals = refl
+class_listed class.Reducing = refl
+class_listed class.Declares = refl
+class_listed class.Dots = refl
+class_listed class.Name = refl
+class_listed class.Number = refl
+class_listed class.Widest = refl
+class_listed class.Unknown = refl
+class_listed class.End = refl
+
+abbrev every_class : (Class → Bool) → Bool
+every_class t = list_all t classes
+
+at_class : (t : Class → Bool) → every_class t ≡ true → (c : Class) → t c ≡ true
+at_class t h c = at_place t classes (class_number c) c (class_listed c) h
+
+abbrev form_number : Form → ℕ
+form_number form.InputHeader = 0
+form_number form.OtherHeader = 1
+form_number form.Format = 2
+form_number form.StoreWord = 3
+form_number form.Fill = 4
+form_number form.Shape = 5
+form_number form.Extent = 6
+form_number form.PlusInt = 7
+form_number form.MinusInt = 8
+form_number form.Magnitude = 9
+form_number form.WidestMagnitude = 10
+form_number form.Loop = 11
+form_number form.If = 12
+form_number form.Let = 13
+form_number form.Block = 14
+form_number form.Turn = 15
+form_number form.Named = 16
+form_number form.Turns = 17
+form_number form.Range = 18
+form_number form.Body = 19
+form_number form.Stmts = 20
+form_number form.Declaration = 21
+form_number form.Update = 22
+form_number form.Reducing = 23
+form_number form.Putting = 24
+form_number form.Plains = 25
+form_number form.PlainList = 26
+form_number form.NextPlain = 27
+form_number form.Constant = 28
+form_number form.Shifted = 29
+form_number form.PlusOffset = 30
+form_number form.MinusOffset = 31
+form_number form.Expr = 32
+form_number form.Compared = 33
+form_number form.Sum = 34
+form_number form.PlusTerm = 35
+form_number form.MinusTerm = 36
+form_number form.Term = 37
+form_number form.NextUnary = 38
+form_number form.NumberUnary = 39
+form_number form.OtherUnary = 40
+form_number form.Negation = 41
+form_number form.NamedOperand = 42
+form_number form.Parentheses = 43
+form_number form.Call = 44
+form_number form.NegatedNumber = 45
+form_number form.NegatedWidest = 46
+form_number form.NegatedOperand = 47
+form_number form.Pair = 48
+form_number form.Access = 49
+form_number form.Indices = 50
+form_number form.IndexList = 51
+form_number form.NextIndex = 52
+form_number form.BareIndex = 53
+form_number form.ProtocolIndex = 54
+form_number form.PlainCore = 55
+form_number form.LooseCore = 56
+form_number form.LooseConstant = 57
+form_number form.LooseNamed = 58
+form_number form.PlusRest = 59
+form_number form.MinusRest = 60
+form_number form.AddedNumber = 61
+form_number form.AddedName = 62
 
 abbrev forms : List Form
-forms = form.InputHeader ∷ form.OtherHeader ∷ form.Format ∷ form.StoreWord ∷ form.Fill ∷ form.Shape ∷ form.Extent ∷ form.PlusInt ∷ form.MinusInt ∷ form.Magnitude ∷ form.WidestMagnitude ∷ form.Loop ∷ form.If ∷ form.Let ∷ form.Block ∷ form.Turn ∷ form.Named ∷ form.Turns ∷ form.Range ∷ form.Body ∷ form.Stmts ∷ form.Declaration ∷ form.Update ∷ form.Reducing ∷ form.Putting ∷ form.Plains ∷ form.PlainList ∷ form.NextPlain ∷ form.Constant ∷ form.Shifted ∷ form.PlusOffset ∷ form.MinusOffset ∷ form.Expr ∷ form.Compared ∷ form.Sum ∷ form.PlusTerm ∷ form.MinusTerm ∷ form.Term ∷ form.NextUnary ∷ form.NumberUnary ∷ form.OtherUnary ∷ form.Negation ∷ form.NamedOperand ∷ form.Parentheses ∷ form.Call ∷ form.NegatedNumber ∷ form.NegatedWidest ∷ form.NegatedOperand ∷ form.Pair ∷ form.Access ∷ form.Indices ∷ form.IndexList ∷ form.NextIndex ∷ form.BareIndex ∷ form.ProtocolIndex ∷ form.PlainCore ∷ form.LooseCore ∷ form.LooseConstant ∷ form.LooseNamed ∷ form.PlusRest ∷ form.MinusRest ∷ form.AddedNumber ∷ form.AddedName ∷ []
+forms =
+    form.InputHeader ∷ form.OtherHeader ∷ form.Format ∷ form.StoreWord ∷ form.Fill ∷ form.Shape ∷ form.Extent ∷ form.PlusInt ∷ form.MinusInt ∷
+    form.Magnitude ∷ form.WidestMagnitude ∷ form.Loop ∷ form.If ∷ form.Let ∷ form.Block ∷ form.Turn ∷ form.Named ∷ form.Turns ∷ form.Range ∷
+    form.Body ∷ form.Stmts ∷ form.Declaration ∷ form.Update ∷ form.Reducing ∷ form.Putting ∷ form.Plains ∷ form.PlainList ∷ form.NextPlain ∷
+    form.Constant ∷ form.Shifted ∷ form.PlusOffset ∷ form.MinusOffset ∷ form.Expr ∷ form.Compared ∷ form.Sum ∷ form.PlusTerm ∷ form.MinusTerm ∷
+    form.Term ∷ form.NextUnary ∷ form.NumberUnary ∷ form.OtherUnary ∷ form.Negation ∷ form.NamedOperand ∷ form.Parentheses ∷ form.Call ∷
+    form.NegatedNumber ∷ form.NegatedWidest ∷ form.NegatedOperand ∷ form.Pair ∷ form.Access ∷ form.Indices ∷ form.IndexList ∷ form.NextIndex ∷
+    form.BareIndex ∷ form.ProtocolIndex ∷ form.PlainCore ∷ form.LooseCore ∷ form.LooseConstant ∷ form.LooseNamed ∷ form.PlusRest ∷ form.MinusRest ∷
+    form.AddedNumber ∷ form.AddedName ∷ []
 
-numbered : (f : Form) → slice_get forms (number_of f) ≡ Some f
-numbered form.InputHeader = refl
-numbered form.OtherHeader = refl
-numbered form.Format = refl
-numbered form.StoreWord = refl
-numbered form.Fill = refl
-numbered form.Shape = refl
-numbered form.Extent = refl
-numbered form.PlusInt = refl
-numbered form.MinusInt = refl
-numbered form.Magnitude = refl
-numbered form.WidestMagnitude = refl
-numbered form.Loop = refl
-numbered form.If = refl
-numbered form.Let = refl
-numbered form.Block = refl
-numbered form.Turn = refl
-numbered form.Named = refl
-numbered form.Turns = refl
-numbered form.Range = refl
-numbered form.Body = refl
-numbered form.Stmts = refl
-numbered form.Declaration = refl
-numbered form.Update = refl
-numbered form.Reducing = refl
-numbered form.Putting = refl
-numbered form.Plains = refl
-numbered form.PlainList = refl
-numbered form.NextPlain = refl
-numbered form.Constant = refl
-numbered form.Shifted = refl
-numbered form.PlusOffset = refl
-numbered form.MinusOffset = refl
-numbered form.Expr = refl
-numbered form.Compared = refl
-numbered form.Sum = refl
-numbered form.PlusTerm = refl
-numbered form.MinusTerm = refl
-numbered form.Term = refl
-numbered form.NextUnary = refl
-numbered form.NumberUnary = refl
-numbered form.OtherUnary = refl
-numbered form.Negation = refl
-numbered form.NamedOperand = refl
-numbered form.Parentheses = refl
-numbered form.Call = refl
-numbered form.NegatedNumber = refl
-numbered form.NegatedWidest = refl
-numbered form.NegatedOperand = refl
-numbered form.Pair = refl
-numbered form.Access = refl
-numbered form.Indices = refl
-numbered form.IndexList = refl
-numbered form.NextIndex = refl
-numbered form.BareIndex = refl
-numbered form.ProtocolIndex = refl
-numbered form.PlainCore = refl
-numbered form.LooseCore = refl
-numbered form.LooseConstant = refl
-numbered form.LooseNamed = refl
-numbered form.PlusRest = refl
-numbered form.MinusRest = refl
-numbered form.AddedNumber = refl
-numbered form.AddedName = refl
+form_listed : (x : Form) → slice_get forms (form_number x) ≡ Some x
+form_listed form.InputHeader = refl
+form_listed form.OtherHeader = refl
+form_listed form.Format = refl
+form_listed form.StoreWord = refl
+form_listed form.Fill = refl
+form_listed form.Shape = refl
+form_listed form.Extent = refl
+form_listed form.PlusInt = refl
+form_listed form.MinusInt = refl
+form_listed form.Magnitude = refl
+form_listed form.WidestMagnitude = refl
+form_listed form.Loop = refl
+form_listed form.If = refl
+form_listed form.Let = refl
+form_listed form.Block = refl
+form_listed form.Turn = refl
+form_listed form.Named = refl
+form_listed form.Turns = refl
+form_listed form.Range = refl
+form_listed form.Body = refl
+form_listed form.Stmts = refl
+form_listed form.Declaration = refl
+form_listed form.Update = refl
+form_listed form.Reducing = refl
+form_listed form.Putting = refl
+form_listed form.Plains = refl
+form_listed form.PlainList = refl
+form_listed form.NextPlain = refl
+form_listed form.Constant = refl
+form_listed form.Shifted = refl
+form_listed form.PlusOffset = refl
+form_listed form.MinusOffset = refl
+form_listed form.Expr = refl
+form_listed form.Compared = refl
+form_listed form.Sum = refl
+form_listed form.PlusTerm = refl
+form_listed form.MinusTerm = refl
+form_listed form.Term = refl
+form_listed form.NextUnary = refl
+form_listed form.NumberUnary = refl
+form_listed form.OtherUnary = refl
+form_listed form.Negation = refl
+form_listed form.NamedOperand = refl
+form_listed form.Parentheses = refl
+form_listed form.Call = refl
+form_listed form.NegatedNumber = refl
+form_listed form.NegatedWidest = refl
+form_listed form.NegatedOperand = refl
+form_listed form.Pair = refl
+form_listed form.Access = refl
+form_listed form.Indices = refl
+form_listed form.IndexList = refl
+form_listed form.NextIndex = refl
+form_listed form.BareIndex = refl
+form_listed form.ProtocolIndex = refl
+form_listed form.PlainCore = refl
+form_listed form.LooseCore = refl
+form_listed form.LooseConstant = refl
+form_listed form.LooseNamed = refl
+form_listed form.PlusRest = refl
+form_listed form.MinusRest = refl
+form_listed form.AddedNumber = refl
+form_listed form.AddedName = refl
+
+at_form : (t : Form → Bool) → list_all t forms ≡ true → (f : Form) → t f ≡ true
+at_form t h f = at_place t forms (form_number f) f (form_listed f) h
+
+-- a test of every form with every class
+at_both : (t : Form → Class → Bool) → list_all (λ f. every_class (t f)) forms ≡ true → (f : Form) (c : Class) → t f c ≡ true
+at_both t h f c = at_class (t f) (at_form (λ f. every_class (t f)) h f) c
 
 abbrev is_form : Option Form → Form → Bool
 is_form None f = false
-is_form (Some g) f = number_of g == number_of f
+is_form (Some g) f = form_number g == form_number f
 
 same_form : (o : Option Form) (f : Form) → is_form o f ≡ true → o ≡ Some f
 same_form None f h = impossible h
-same_form (Some g) f h = sym (numbered g) ∙ ap (λ n. slice_get forms n) (eqb-true (number_of g) (number_of f) h) ∙ numbered f
-
--- ---- the table
-
--- a form is chosen by each class that begins it
-pub chosen : (f : Form) (c : Class) → row_starts (row_of f) c ≡ true → form_at (phrase_of f) c ≡ Some f
-chosen f c h = same_form (form_at (phrase_of f) c) f (implied (row_starts (row_of f) c) (is_form (form_at (phrase_of f) c) f) (at_each (λ c. not (row_starts (row_of f) c) || is_form (form_at (phrase_of f) c) f) (holds f) c) h)
-  where
-    holds : (f : Form) → every (λ c. not (row_starts (row_of f) c) || is_form (form_at (phrase_of f) c) f) ≡ true
-    holds form.InputHeader = refl
-    holds form.OtherHeader = refl
-    holds form.Format = refl
-    holds form.StoreWord = refl
-    holds form.Fill = refl
-    holds form.Shape = refl
-    holds form.Extent = refl
-    holds form.PlusInt = refl
-    holds form.MinusInt = refl
-    holds form.Magnitude = refl
-    holds form.WidestMagnitude = refl
-    holds form.Loop = refl
-    holds form.If = refl
-    holds form.Let = refl
-    holds form.Block = refl
-    holds form.Turn = refl
-    holds form.Named = refl
-    holds form.Turns = refl
-    holds form.Range = refl
-    holds form.Body = refl
-    holds form.Stmts = refl
-    holds form.Declaration = refl
-    holds form.Update = refl
-    holds form.Reducing = refl
-    holds form.Putting = refl
-    holds form.Plains = refl
-    holds form.PlainList = refl
-    holds form.NextPlain = refl
-    holds form.Constant = refl
-    holds form.Shifted = refl
-    holds form.PlusOffset = refl
-    holds form.MinusOffset = refl
-    holds form.Expr = refl
-    holds form.Compared = refl
-    holds form.Sum = refl
-    holds form.PlusTerm = refl
-    holds form.MinusTerm = refl
-    holds form.Term = refl
-    holds form.NextUnary = refl
-    holds form.NumberUnary = refl
-    holds form.OtherUnary = refl
-    holds form.Negation = refl
-    holds form.NamedOperand = refl
-    holds form.Parentheses = refl
-    holds form.Call = refl
-    holds form.NegatedNumber = refl
-    holds form.NegatedWidest = refl
-    holds form.NegatedOperand = refl
-    holds form.Pair = refl
-    holds form.Access = refl
-    holds form.Indices = refl
-    holds form.IndexList = refl
-    holds form.NextIndex = refl
-    holds form.BareIndex = refl
-    holds form.ProtocolIndex = refl
-    holds form.PlainCore = refl
-    holds form.LooseCore = refl
-    holds form.LooseConstant = refl
-    holds form.LooseNamed = refl
-    holds form.PlusRest = refl
-    holds form.MinusRest = refl
-    holds form.AddedNumber = refl
-    holds form.AddedName = refl
-
--- a form without a token is chosen always
-pub chosen_empty : (f : Form) (c : Class) → are_empty (row_of f) ≡ true → form_at (phrase_of f) c ≡ Some f
-chosen_empty form.Stmts c h = refl
-chosen_empty form.Plains c h = refl
-chosen_empty form.Indices c h = refl
-chosen_empty _ c h = impossible h
-
-pub nullable : (f : Form) → are_empty (row_of f) ≡ true → is_nullable (phrase_of f) ≡ true
-nullable form.Stmts h = refl
-nullable form.Plains h = refl
-nullable form.Indices h = refl
-nullable _ h = impossible h
-
-pub continued : (f : Form) (c : Class) → row_continues (row_of f) c ≡ true → goes_on (phrase_of f) c ≡ true
-continued f c h = implied (row_continues (row_of f) c) (goes_on (phrase_of f) c) (at_each (λ c. not (row_continues (row_of f) c) || goes_on (phrase_of f) c) (holds f) c) h
-  where
-    holds : (f : Form) → every (λ c. not (row_continues (row_of f) c) || goes_on (phrase_of f) c) ≡ true
-    holds form.InputHeader = refl
-    holds form.OtherHeader = refl
-    holds form.Format = refl
-    holds form.StoreWord = refl
-    holds form.Fill = refl
-    holds form.Shape = refl
-    holds form.Extent = refl
-    holds form.PlusInt = refl
-    holds form.MinusInt = refl
-    holds form.Magnitude = refl
-    holds form.WidestMagnitude = refl
-    holds form.Loop = refl
-    holds form.If = refl
-    holds form.Let = refl
-    holds form.Block = refl
-    holds form.Turn = refl
-    holds form.Named = refl
-    holds form.Turns = refl
-    holds form.Range = refl
-    holds form.Body = refl
-    holds form.Stmts = refl
-    holds form.Declaration = refl
-    holds form.Update = refl
-    holds form.Reducing = refl
-    holds form.Putting = refl
-    holds form.Plains = refl
-    holds form.PlainList = refl
-    holds form.NextPlain = refl
-    holds form.Constant = refl
-    holds form.Shifted = refl
-    holds form.PlusOffset = refl
-    holds form.MinusOffset = refl
-    holds form.Expr = refl
-    holds form.Compared = refl
-    holds form.Sum = refl
-    holds form.PlusTerm = refl
-    holds form.MinusTerm = refl
-    holds form.Term = refl
-    holds form.NextUnary = refl
-    holds form.NumberUnary = refl
-    holds form.OtherUnary = refl
-    holds form.Negation = refl
-    holds form.NamedOperand = refl
-    holds form.Parentheses = refl
-    holds form.Call = refl
-    holds form.NegatedNumber = refl
-    holds form.NegatedWidest = refl
-    holds form.NegatedOperand = refl
-    holds form.Pair = refl
-    holds form.Access = refl
-    holds form.Indices = refl
-    holds form.IndexList = refl
-    holds form.NextIndex = refl
-    holds form.BareIndex = refl
-    holds form.ProtocolIndex = refl
-    holds form.PlainCore = refl
-    holds form.LooseCore = refl
-    holds form.LooseConstant = refl
-    holds form.LooseNamed = refl
-    holds form.PlusRest = refl
-    holds form.MinusRest = refl
-    holds form.AddedNumber = refl
-    holds form.AddedName = refl
-
-pub clear : (f : Form) (c : Class) → is_clear (row_of f) c ≡ true
-clear f c = at_each (λ c. is_clear (row_of f) c) (holds f) c
-  where
-    holds : (f : Form) → every (λ c. is_clear (row_of f) c) ≡ true
-    holds form.InputHeader = refl
-    holds form.OtherHeader = refl
-    holds form.Format = refl
-    holds form.StoreWord = refl
-    holds form.Fill = refl
-    holds form.Shape = refl
-    holds form.Extent = refl
-    holds form.PlusInt = refl
-    holds form.MinusInt = refl
-    holds form.Magnitude = refl
-    holds form.WidestMagnitude = refl
-    holds form.Loop = refl
-    holds form.If = refl
-    holds form.Let = refl
-    holds form.Block = refl
-    holds form.Turn = refl
-    holds form.Named = refl
-    holds form.Turns = refl
-    holds form.Range = refl
-    holds form.Body = refl
-    holds form.Stmts = refl
-    holds form.Declaration = refl
-    holds form.Update = refl
-    holds form.Reducing = refl
-    holds form.Putting = refl
-    holds form.Plains = refl
-    holds form.PlainList = refl
-    holds form.NextPlain = refl
-    holds form.Constant = refl
-    holds form.Shifted = refl
-    holds form.PlusOffset = refl
-    holds form.MinusOffset = refl
-    holds form.Expr = refl
-    holds form.Compared = refl
-    holds form.Sum = refl
-    holds form.PlusTerm = refl
-    holds form.MinusTerm = refl
-    holds form.Term = refl
-    holds form.NextUnary = refl
-    holds form.NumberUnary = refl
-    holds form.OtherUnary = refl
-    holds form.Negation = refl
-    holds form.NamedOperand = refl
-    holds form.Parentheses = refl
-    holds form.Call = refl
-    holds form.NegatedNumber = refl
-    holds form.NegatedWidest = refl
-    holds form.NegatedOperand = refl
-    holds form.Pair = refl
-    holds form.Access = refl
-    holds form.Indices = refl
-    holds form.IndexList = refl
-    holds form.NextIndex = refl
-    holds form.BareIndex = refl
-    holds form.ProtocolIndex = refl
-    holds form.PlainCore = refl
-    holds form.LooseCore = refl
-    holds form.LooseConstant = refl
-    holds form.LooseNamed = refl
-    holds form.PlusRest = refl
-    holds form.MinusRest = refl
-    holds form.AddedNumber = refl
-    holds form.AddedName = refl
-
-pub sound : (f : Form) (c : Class) → are_sound (row_of f) c ≡ true
-sound f c = at_each (λ c. are_sound (row_of f) c) (holds f) c
-  where
-    holds : (f : Form) → every (λ c. are_sound (row_of f) c) ≡ true
-    holds form.InputHeader = refl
-    holds form.OtherHeader = refl
-    holds form.Format = refl
-    holds form.StoreWord = refl
-    holds form.Fill = refl
-    holds form.Shape = refl
-    holds form.Extent = refl
-    holds form.PlusInt = refl
-    holds form.MinusInt = refl
-    holds form.Magnitude = refl
-    holds form.WidestMagnitude = refl
-    holds form.Loop = refl
-    holds form.If = refl
-    holds form.Let = refl
-    holds form.Block = refl
-    holds form.Turn = refl
-    holds form.Named = refl
-    holds form.Turns = refl
-    holds form.Range = refl
-    holds form.Body = refl
-    holds form.Stmts = refl
-    holds form.Declaration = refl
-    holds form.Update = refl
-    holds form.Reducing = refl
-    holds form.Putting = refl
-    holds form.Plains = refl
-    holds form.PlainList = refl
-    holds form.NextPlain = refl
-    holds form.Constant = refl
-    holds form.Shifted = refl
-    holds form.PlusOffset = refl
-    holds form.MinusOffset = refl
-    holds form.Expr = refl
-    holds form.Compared = refl
-    holds form.Sum = refl
-    holds form.PlusTerm = refl
-    holds form.MinusTerm = refl
-    holds form.Term = refl
-    holds form.NextUnary = refl
-    holds form.NumberUnary = refl
-    holds form.OtherUnary = refl
-    holds form.Negation = refl
-    holds form.NamedOperand = refl
-    holds form.Parentheses = refl
-    holds form.Call = refl
-    holds form.NegatedNumber = refl
-    holds form.NegatedWidest = refl
-    holds form.NegatedOperand = refl
-    holds form.Pair = refl
-    holds form.Access = refl
-    holds form.Indices = refl
-    holds form.IndexList = refl
-    holds form.NextIndex = refl
-    holds form.BareIndex = refl
-    holds form.ProtocolIndex = refl
-    holds form.PlainCore = refl
-    holds form.LooseCore = refl
-    holds form.LooseConstant = refl
-    holds form.LooseNamed = refl
-    holds form.PlusRest = refl
-    holds form.MinusRest = refl
-    holds form.AddedNumber = refl
-    holds form.AddedName = refl
-
--- ---- phrases by number
+same_form (Some g) f h = sym (form_listed g) ∙ ap (λ n. slice_get forms n) (eqb-true (form_number g) (form_number f) h) ∙ form_listed f
 
 abbrev phrase_number : Phrase → ℕ
 phrase_number phrase.Header = 0
@@ -540,54 +320,93 @@ phrase_number phrase.LooseRest = 37
 phrase_number phrase.Added = 38
 
 abbrev phrases : List Phrase
-phrases = phrase.Header ∷ phrase.Format ∷ phrase.StoreWord ∷ phrase.Fill ∷ phrase.Shape ∷ phrase.Extent ∷ phrase.Int ∷ phrase.Magnitude ∷ phrase.Stmt ∷ phrase.Turns ∷ phrase.Range ∷ phrase.Body ∷ phrase.Stmts ∷ phrase.Change ∷ phrase.Assigning ∷ phrase.Plains ∷ phrase.PlainList ∷ phrase.NextPlain ∷ phrase.Plain ∷ phrase.Offset ∷ phrase.Expr ∷ phrase.Compared ∷ phrase.Sum ∷ phrase.NextTerm ∷ phrase.Term ∷ phrase.NextUnary ∷ phrase.Unary ∷ phrase.Operand ∷ phrase.Negated ∷ phrase.Pair ∷ phrase.Access ∷ phrase.Indices ∷ phrase.IndexList ∷ phrase.NextIndex ∷ phrase.Index ∷ phrase.Core ∷ phrase.Loose ∷ phrase.LooseRest ∷ phrase.Added ∷ []
+phrases =
+    phrase.Header ∷ phrase.Format ∷ phrase.StoreWord ∷ phrase.Fill ∷ phrase.Shape ∷ phrase.Extent ∷ phrase.Int ∷ phrase.Magnitude ∷ phrase.Stmt ∷
+    phrase.Turns ∷ phrase.Range ∷ phrase.Body ∷ phrase.Stmts ∷ phrase.Change ∷ phrase.Assigning ∷ phrase.Plains ∷ phrase.PlainList ∷
+    phrase.NextPlain ∷ phrase.Plain ∷ phrase.Offset ∷ phrase.Expr ∷ phrase.Compared ∷ phrase.Sum ∷ phrase.NextTerm ∷ phrase.Term ∷ phrase.NextUnary ∷
+    phrase.Unary ∷ phrase.Operand ∷ phrase.Negated ∷ phrase.Pair ∷ phrase.Access ∷ phrase.Indices ∷ phrase.IndexList ∷ phrase.NextIndex ∷
+    phrase.Index ∷ phrase.Core ∷ phrase.Loose ∷ phrase.LooseRest ∷ phrase.Added ∷ []
 
-phrase_numbered : (n : Phrase) → slice_get phrases (phrase_number n) ≡ Some n
-phrase_numbered phrase.Header = refl
-phrase_numbered phrase.Format = refl
-phrase_numbered phrase.StoreWord = refl
-phrase_numbered phrase.Fill = refl
-phrase_numbered phrase.Shape = refl
-phrase_numbered phrase.Extent = refl
-phrase_numbered phrase.Int = refl
-phrase_numbered phrase.Magnitude = refl
-phrase_numbered phrase.Stmt = refl
-phrase_numbered phrase.Turns = refl
-phrase_numbered phrase.Range = refl
-phrase_numbered phrase.Body = refl
-phrase_numbered phrase.Stmts = refl
-phrase_numbered phrase.Change = refl
-phrase_numbered phrase.Assigning = refl
-phrase_numbered phrase.Plains = refl
-phrase_numbered phrase.PlainList = refl
-phrase_numbered phrase.NextPlain = refl
-phrase_numbered phrase.Plain = refl
-phrase_numbered phrase.Offset = refl
-phrase_numbered phrase.Expr = refl
-phrase_numbered phrase.Compared = refl
-phrase_numbered phrase.Sum = refl
-phrase_numbered phrase.NextTerm = refl
-phrase_numbered phrase.Term = refl
-phrase_numbered phrase.NextUnary = refl
-phrase_numbered phrase.Unary = refl
-phrase_numbered phrase.Operand = refl
-phrase_numbered phrase.Negated = refl
-phrase_numbered phrase.Pair = refl
-phrase_numbered phrase.Access = refl
-phrase_numbered phrase.Indices = refl
-phrase_numbered phrase.IndexList = refl
-phrase_numbered phrase.NextIndex = refl
-phrase_numbered phrase.Index = refl
-phrase_numbered phrase.Core = refl
-phrase_numbered phrase.Loose = refl
-phrase_numbered phrase.LooseRest = refl
-phrase_numbered phrase.Added = refl
+phrase_listed : (x : Phrase) → slice_get phrases (phrase_number x) ≡ Some x
+phrase_listed phrase.Header = refl
+phrase_listed phrase.Format = refl
+phrase_listed phrase.StoreWord = refl
+phrase_listed phrase.Fill = refl
+phrase_listed phrase.Shape = refl
+phrase_listed phrase.Extent = refl
+phrase_listed phrase.Int = refl
+phrase_listed phrase.Magnitude = refl
+phrase_listed phrase.Stmt = refl
+phrase_listed phrase.Turns = refl
+phrase_listed phrase.Range = refl
+phrase_listed phrase.Body = refl
+phrase_listed phrase.Stmts = refl
+phrase_listed phrase.Change = refl
+phrase_listed phrase.Assigning = refl
+phrase_listed phrase.Plains = refl
+phrase_listed phrase.PlainList = refl
+phrase_listed phrase.NextPlain = refl
+phrase_listed phrase.Plain = refl
+phrase_listed phrase.Offset = refl
+phrase_listed phrase.Expr = refl
+phrase_listed phrase.Compared = refl
+phrase_listed phrase.Sum = refl
+phrase_listed phrase.NextTerm = refl
+phrase_listed phrase.Term = refl
+phrase_listed phrase.NextUnary = refl
+phrase_listed phrase.Unary = refl
+phrase_listed phrase.Operand = refl
+phrase_listed phrase.Negated = refl
+phrase_listed phrase.Pair = refl
+phrase_listed phrase.Access = refl
+phrase_listed phrase.Indices = refl
+phrase_listed phrase.IndexList = refl
+phrase_listed phrase.NextIndex = refl
+phrase_listed phrase.Index = refl
+phrase_listed phrase.Core = refl
+phrase_listed phrase.Loose = refl
+phrase_listed phrase.LooseRest = refl
+phrase_listed phrase.Added = refl
+
+at_phrase : (t : Phrase → Bool) → list_all t phrases ≡ true → (n : Phrase) → t n ≡ true
+at_phrase t h n = at_place t phrases (phrase_number n) n (phrase_listed n) h
 
 same_phrase : (n m : Phrase) → phrase_number n == phrase_number m ≡ true → n ≡ m
-same_phrase n m h = some_same (sym (phrase_numbered n) ∙ ap (λ k. slice_get phrases k) (eqb-true (phrase_number n) (phrase_number m) h) ∙ phrase_numbered m)
-  where
-    some_same : {n m : Phrase} → Some n ≡ Some m → n ≡ m
-    some_same e = cc
+same_phrase n m h = some_same (sym (phrase_listed n) ∙ ap (λ k. slice_get phrases k) (eqb-true (phrase_number n) (phrase_number m) h) ∙ phrase_listed m)
+
+-- ---- the table
+
+-- a form is chosen by each class that begins it
+pub chosen : (f : Form) (c : Class) → row_starts (row_of f) c ≡ true → form_at (phrase_of f) c ≡ Some f
+chosen f c h =
+    let t : not (row_starts (row_of f) c) || is_form (form_at (phrase_of f) c) f ≡ true =
+        at_both (λ f c. not (row_starts (row_of f) c) || is_form (form_at (phrase_of f) c) f) refl f c in
+    same_form (form_at (phrase_of f) c) f (implied (row_starts (row_of f) c) (is_form (form_at (phrase_of f) c) f) t h)
+
+-- a form without a token is chosen always
+pub chosen_empty : (f : Form) (c : Class) → are_empty (row_of f) ≡ true → form_at (phrase_of f) c ≡ Some f
+chosen_empty form.Stmts c h = refl
+chosen_empty form.Plains c h = refl
+chosen_empty form.Indices c h = refl
+chosen_empty _ c h = impossible h
+
+pub nullable : (f : Form) → are_empty (row_of f) ≡ true → is_nullable (phrase_of f) ≡ true
+nullable form.Stmts h = refl
+nullable form.Plains h = refl
+nullable form.Indices h = refl
+nullable _ h = impossible h
+
+pub continued : (f : Form) (c : Class) → row_continues (row_of f) c ≡ true → goes_on (phrase_of f) c ≡ true
+continued f c h =
+    let t : not (row_continues (row_of f) c) || goes_on (phrase_of f) c ≡ true =
+        at_both (λ f c. not (row_continues (row_of f) c) || goes_on (phrase_of f) c) refl f c in
+    implied (row_continues (row_of f) c) (goes_on (phrase_of f) c) t h
+
+pub clear : (f : Form) (c : Class) → is_clear (row_of f) c ≡ true
+clear f c = at_both (λ f c. is_clear (row_of f) c) refl f c
+
+pub sound : (f : Form) (c : Class) → are_sound (row_of f) c ≡ true
+sound f c = at_both (λ f c. are_sound (row_of f) c) refl f c
 
 abbrev fits : Option Form → Phrase → Bool
 fits None n = true
@@ -595,48 +414,9 @@ fits (Some f) n = phrase_number (phrase_of f) == phrase_number n
 
 -- the form that is chosen for a phrase is one of its forms
 pub chosen_for : (n : Phrase) (c : Class) (f : Form) → form_at n c ≡ Some f → phrase_of f ≡ n
-chosen_for n c f h = same_phrase (phrase_of f) n (subst (λ o. fits o n ≡ true) h (at_each (λ c. fits (form_at n c) n) (holds n) c))
-  where
-    holds : (n : Phrase) → every (λ c. fits (form_at n c) n) ≡ true
-    holds phrase.Header = refl
-    holds phrase.Format = refl
-    holds phrase.StoreWord = refl
-    holds phrase.Fill = refl
-    holds phrase.Shape = refl
-    holds phrase.Extent = refl
-    holds phrase.Int = refl
-    holds phrase.Magnitude = refl
-    holds phrase.Stmt = refl
-    holds phrase.Turns = refl
-    holds phrase.Range = refl
-    holds phrase.Body = refl
-    holds phrase.Stmts = refl
-    holds phrase.Change = refl
-    holds phrase.Assigning = refl
-    holds phrase.Plains = refl
-    holds phrase.PlainList = refl
-    holds phrase.NextPlain = refl
-    holds phrase.Plain = refl
-    holds phrase.Offset = refl
-    holds phrase.Expr = refl
-    holds phrase.Compared = refl
-    holds phrase.Sum = refl
-    holds phrase.NextTerm = refl
-    holds phrase.Term = refl
-    holds phrase.NextUnary = refl
-    holds phrase.Unary = refl
-    holds phrase.Operand = refl
-    holds phrase.Negated = refl
-    holds phrase.Pair = refl
-    holds phrase.Access = refl
-    holds phrase.Indices = refl
-    holds phrase.IndexList = refl
-    holds phrase.NextIndex = refl
-    holds phrase.Index = refl
-    holds phrase.Core = refl
-    holds phrase.Loose = refl
-    holds phrase.LooseRest = refl
-    holds phrase.Added = refl
+chosen_for n c f h =
+    let t : fits (form_at n c) n ≡ true = at_class (λ c. fits (form_at n c) n) (at_phrase (λ n. every_class (λ c. fits (form_at n c) n)) refl n) c in
+    same_phrase (phrase_of f) n (subst (λ o. fits o n ≡ true) h t)
 
 pub unopened : (n : Phrase) (c : Class) → may_open n c ≡ false → (begins n c ≡ false) × (is_nullable n ≡ false)
 unopened phrase.Operand class.Number h = (refl, refl)
@@ -645,39 +425,7 @@ unopened phrase.Operand _ h = impossible (sym h)
 unopened _ c h = impossible (sym h)
 
 pub same_self : (c : Class) → same_class c c ≡ true
-same_self class.In = refl
-same_self class.OutOrTmp = refl
-same_self class.Fill = refl
-same_self class.Shape = refl
-same_self class.Loop = refl
-same_self class.If = refl
-same_self class.Let = refl
-same_self class.Turn = refl
-same_self class.Protocol = refl
-same_self class.Call = refl
-same_self class.Store = refl
-same_self class.Element = refl
-same_self class.OpenBracket = refl
-same_self class.CloseBracket = refl
-same_self class.OpenParenthesis = refl
-same_self class.CloseParenthesis = refl
-same_self class.OpenBrace = refl
-same_self class.CloseBrace = refl
-same_self class.Comma = refl
-same_self class.Tilde = refl
-same_self class.Plus = refl
-same_self class.Minus = refl
-same_self class.Star = refl
-same_self class.Comparison = refl
-same_self class.Equals = refl
-same_self class.Reducing = refl
-same_self class.Declares = refl
-same_self class.Dots = refl
-same_self class.Name = refl
-same_self class.Number = refl
-same_self class.Widest = refl
-same_self class.Unknown = refl
-same_self class.End = refl
+same_self c = at_class (λ c. same_class c c) refl c
 
 -- a kind of each class
 abbrev pub kind_of : Class → TokenKind
@@ -751,117 +499,20 @@ kind_there class.Unknown h = refl
 kind_there class.End h = impossible h
 
 pub lighter : (f : Form) → row_weight (row_of f) ≤ rank (phrase_of f)
-lighter form.InputHeader = lit≤ tt
-lighter form.OtherHeader = lit≤ tt
-lighter form.Format = lit≤ tt
-lighter form.StoreWord = lit≤ tt
-lighter form.Fill = lit≤ tt
-lighter form.Shape = lit≤ tt
-lighter form.Extent = lit≤ tt
-lighter form.PlusInt = lit≤ tt
-lighter form.MinusInt = lit≤ tt
-lighter form.Magnitude = lit≤ tt
-lighter form.WidestMagnitude = lit≤ tt
-lighter form.Loop = lit≤ tt
-lighter form.If = lit≤ tt
-lighter form.Let = lit≤ tt
-lighter form.Block = lit≤ tt
-lighter form.Turn = lit≤ tt
-lighter form.Named = lit≤ tt
-lighter form.Turns = lit≤ tt
-lighter form.Range = lit≤ tt
-lighter form.Body = lit≤ tt
-lighter form.Stmts = lit≤ tt
-lighter form.Declaration = lit≤ tt
-lighter form.Update = lit≤ tt
-lighter form.Reducing = lit≤ tt
-lighter form.Putting = lit≤ tt
-lighter form.Plains = lit≤ tt
-lighter form.PlainList = lit≤ tt
-lighter form.NextPlain = lit≤ tt
-lighter form.Constant = lit≤ tt
-lighter form.Shifted = lit≤ tt
-lighter form.PlusOffset = lit≤ tt
-lighter form.MinusOffset = lit≤ tt
-lighter form.Expr = lit≤ tt
-lighter form.Compared = lit≤ tt
-lighter form.Sum = lit≤ tt
-lighter form.PlusTerm = lit≤ tt
-lighter form.MinusTerm = lit≤ tt
-lighter form.Term = lit≤ tt
-lighter form.NextUnary = lit≤ tt
-lighter form.NumberUnary = lit≤ tt
-lighter form.OtherUnary = lit≤ tt
-lighter form.Negation = lit≤ tt
-lighter form.NamedOperand = lit≤ tt
-lighter form.Parentheses = lit≤ tt
-lighter form.Call = lit≤ tt
-lighter form.NegatedNumber = lit≤ tt
-lighter form.NegatedWidest = lit≤ tt
-lighter form.NegatedOperand = lit≤ tt
-lighter form.Pair = lit≤ tt
-lighter form.Access = lit≤ tt
-lighter form.Indices = lit≤ tt
-lighter form.IndexList = lit≤ tt
-lighter form.NextIndex = lit≤ tt
-lighter form.BareIndex = lit≤ tt
-lighter form.ProtocolIndex = lit≤ tt
-lighter form.PlainCore = lit≤ tt
-lighter form.LooseCore = lit≤ tt
-lighter form.LooseConstant = lit≤ tt
-lighter form.LooseNamed = lit≤ tt
-lighter form.PlusRest = lit≤ tt
-lighter form.MinusRest = lit≤ tt
-lighter form.AddedNumber = lit≤ tt
-lighter form.AddedName = lit≤ tt
+lighter f = leb-true (row_weight (row_of f)) (rank (phrase_of f)) (at_form (λ f. leb (row_weight (row_of f)) (rank (phrase_of f))) refl f)
 
 pub small : (n : Phrase) → rank n < 16
-small phrase.Header = lit< tt
-small phrase.Format = lit< tt
-small phrase.StoreWord = lit< tt
-small phrase.Fill = lit< tt
-small phrase.Shape = lit< tt
-small phrase.Extent = lit< tt
-small phrase.Int = lit< tt
-small phrase.Magnitude = lit< tt
-small phrase.Stmt = lit< tt
-small phrase.Turns = lit< tt
-small phrase.Range = lit< tt
-small phrase.Body = lit< tt
-small phrase.Stmts = lit< tt
-small phrase.Change = lit< tt
-small phrase.Assigning = lit< tt
-small phrase.Plains = lit< tt
-small phrase.PlainList = lit< tt
-small phrase.NextPlain = lit< tt
-small phrase.Plain = lit< tt
-small phrase.Offset = lit< tt
-small phrase.Expr = lit< tt
-small phrase.Compared = lit< tt
-small phrase.Sum = lit< tt
-small phrase.NextTerm = lit< tt
-small phrase.Term = lit< tt
-small phrase.NextUnary = lit< tt
-small phrase.Unary = lit< tt
-small phrase.Operand = lit< tt
-small phrase.Negated = lit< tt
-small phrase.Pair = lit< tt
-small phrase.Access = lit< tt
-small phrase.Indices = lit< tt
-small phrase.IndexList = lit< tt
-small phrase.NextIndex = lit< tt
-small phrase.Index = lit< tt
-small phrase.Core = lit< tt
-small phrase.Loose = lit< tt
-small phrase.LooseRest = lit< tt
-small phrase.Added = lit< tt
+small n = leb-true (suc (rank n)) 16 (at_phrase (λ n. leb (suc (rank n)) 16) refl n)
 
 pub header_apart : (c : Class) → not (goes_on phrase.Header c && begins phrase.Header c) ≡ true
-header_apart c = at_each (λ c. not (goes_on phrase.Header c && begins phrase.Header c)) refl c
+header_apart c = at_class (λ c. not (goes_on phrase.Header c && begins phrase.Header c)) refl c
 
 pub stmt_apart : (c : Class) → not (goes_on phrase.Stmt c && begins phrase.Stmt c) ≡ true
-stmt_apart c = at_each (λ c. not (goes_on phrase.Stmt c && begins phrase.Stmt c)) refl c
+stmt_apart c = at_class (λ c. not (goes_on phrase.Stmt c && begins phrase.Stmt c)) refl c
 
 -- a statement continues no header
 pub header_clear : (c : Class) → begins phrase.Stmt c ≡ true → not (begins phrase.Header c || goes_on phrase.Header c) ≡ true
-header_clear c h = implied (begins phrase.Stmt c) (not (begins phrase.Header c || goes_on phrase.Header c)) (at_each (λ c. not (begins phrase.Stmt c) || not (begins phrase.Header c || goes_on phrase.Header c)) refl c) h
+header_clear c h =
+    let t : not (begins phrase.Stmt c) || not (begins phrase.Header c || goes_on phrase.Header c) ≡ true =
+        at_class (λ c. not (begins phrase.Stmt c) || not (begins phrase.Header c || goes_on phrase.Header c)) refl c in
+    implied (begins phrase.Stmt c) (not (begins phrase.Header c || goes_on phrase.Header c)) t h
