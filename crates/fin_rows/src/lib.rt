@@ -20,3 +20,5 @@ mod served;
 mod syntax;
 #[cfg(test)]
 mod verdict;
+#[cfg(test)]
+mod wholes;

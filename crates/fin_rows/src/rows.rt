@@ -20,7 +20,7 @@ pub(crate) const MASK: &[u8] =
 
 pub(crate) const MASK_TEXT: &[u8] = b"tensor s\nformat element\nfill 0\nshape\nval 3\nend\n";
 
-pub(crate) const ROWS: [Row; 20] = [
+pub(crate) const ROWS: [Row; 24] = [
     Row {
         job: TIMES,
         out: TIMES_TEXT,
@@ -110,6 +110,26 @@ pub(crate) const ROWS: [Row; 20] = [
     Row {
         job: b"out y dense element fill 5 shape 3\ny .= 5\nif 0 { y[0] = 1 }\nif -1 { y[2] = 1 }\n%%\n",
         out: b"tensor y\nformat dense element\nfill 5\nshape 3\nval 5 5 1\nend\n",
+    },
+    // every operator, comparison and call
+    Row {
+        job: b"out y dense element shape 24\ny .= 0\ny[0] = 7 + -3\ny[1] = 7 - -3\ny[2] = 7 * -3\ny[3] = -(7)\ny[4] = min(7, -3)\ny[5] = max(7, -3)\ny[6] = and(7, -3)\ny[7] = or(5, -8)\ny[8] = xor(7, -3)\ny[9] = 3 < 4\ny[10] = 4 < 4\ny[11] = 4 <= 4\ny[12] = 5 <= 4\ny[13] = 5 > 4\ny[14] = 4 > 4\ny[15] = 4 >= 4\ny[16] = 3 >= 4\ny[17] = 4 == 4\ny[18] = 4 == 5\ny[19] = 4 != 5\ny[20] = 4 != 4\ny[21] = 2 + 3 * 4\ny[22] = (2 + 3) * 4\ny[23] = 9 - 4 - 3\n%%\n",
+        out: b"tensor y\nformat dense element\nfill 0\nshape 24\nval 4 10 -21 -7 -3 7 5 -3 -6 1 0 1 0 1 0 1 0 1 0 1 0 14 20 2\nend\n",
+    },
+    // every reduction
+    Row {
+        job: b"out y dense element fill 6 shape 8\ny .= 6\ny[0] += 3\ny[1] *= 3\ny[2] min= 3\ny[3] max= 3\ny[4] and= 3\ny[5] or= 3\ny[6] xor= 3\ny[7] = 3\n%%\n",
+        out: b"tensor y\nformat dense element\nfill 6\nshape 8\nval 9 18 3 6 2 7 5 3\nend\n",
+    },
+    // every level, read by every protocol and outside its box
+    Row {
+        job: b"in D dense element\nin L list element\nin R runs element\nin B band element\nin H dict element\nout v dense element\nout w list element\nout x runs element\nout y band element\nout z dict element\nout s dense element shape 5\nv .= 0\nw .= 0\nx .= 0\ny .= 0\nz .= 0\ns .= 0\nfor i { v[i] = D[i] w[i] = L[i] x[i] = R[i] y[i] = B[i] z[i] = H[i] }\nfor i { s[0] += D[i] s[1] += L[walk(i)] s[2] += R[gallop(i)] s[3] += B[follow(i)] s[4] += H[~(i+1)] }\n%%\ntensor D\nformat dense element\nfill 0\nshape 4\nval 0 4 4 0\nend\ntensor L\nformat list element\nfill 0\nshape 4\nptr 0 0 2\nidx 0 1 2\nval 4 4\nend\ntensor R\nformat runs element\nfill 0\nshape 4\nptr 0 0 3\nstop 0 1 3 4\nval 0 4 0\nend\ntensor B\nformat band element\nfill 0\nshape 4\nptr 0 0 2\nstart 0 1\nval 4 4\nend\ntensor H\nformat dict element\nfill 0\nshape 4\nptr 0 0 2\nidx 0 1 2\nval 4 4\nend\n",
+        out: b"tensor v\nformat dense element\nfill 0\nshape 4\nval 0 4 4 0\nend\ntensor w\nformat list element\nfill 0\nshape 4\nptr 0 0 2\nidx 0 1 2\nval 4 4\nend\ntensor x\nformat runs element\nfill 0\nshape 4\nptr 0 0 3\nstop 0 1 3 4\nval 0 4 0\nend\ntensor y\nformat band element\nfill 0\nshape 4\nptr 0 0 2\nstart 0 1\nval 4 4\nend\ntensor z\nformat dict element\nfill 0\nshape 4\nptr 0 0 2\nidx 0 1 2\nval 4 4\nend\ntensor s\nformat dense element\nfill 0\nshape 5\nval 8 8 8 8 8\nend\n",
+    },
+    // every wrap, and the words of statements
+    Row {
+        job: b"in x dense element\nout a atomic element\nout m dense mutex dense element shape 2 3\nout h shard dict element\ntmp t element\na .= 0\nm .= 0\nh .= 0\nt .= 0\nt[] += 1\nfreeze t\npar i { a[] += x[i] }\npar j in 0..2 { for k in 0..3 { m[j,k] += x[k] } }\npar l { h[l] += x[l] }\nthaw t\nt[] += 1\nlet v = 5 { if v == 5 { if x[0] { a[] += v } } }\nm[0,0] += t[]\n%%\ntensor x\nformat dense element\nfill 0\nshape 3\nval 1 2 3\nend\n",
+        out: b"tensor a\nformat element\nfill 0\nshape\nval 11\nend\ntensor m\nformat dense dense element\nfill 0\nshape 2 3\nval 3 2 3 1 2 3\nend\ntensor h\nformat dict element\nfill 0\nshape 3\nptr 0 0 3\nidx 0 0 1 2\nval 1 2 3\nend\n",
     },
     // nothing
     Row {
