@@ -1,13 +1,11 @@
 -- Extents that are found fit the headers: numbers come from given shapes alone.
-use Rattle.std.proofs.Common.{◌≡◌, ◌<◌, ◌≤◌, ◌+◌, ◌*◌, ◌^◌, ◌||◌, ℕ, zero, suc, Bool, true, false, List, [], ◌∷◌, ◌++◌, refl, sym, ap, ◌∙◌, arith, length, Option, Some, None, subst, get_or, All}
-use Rattle.std.specs.Prelude.{IfSome, slice_get, slice_index, slice_index_or, nat_lt, nat_le, filter_map, unwrap_or, ◌/◌, ◌%◌}
+use Rattle.std.proofs.Common.{◌≡◌, ◌≤◌, ◌+◌, ◌*◌, ◌^◌, ◌||◌, ℕ, zero, suc, Bool, true, false, List, [], ◌∷◌, ◌++◌, refl, sym, ap, ◌∙◌, arith, length, Option, Some, None, subst, All}
+use Rattle.std.specs.Prelude.{IfSome, slice_get, slice_index_or, nat_lt, nat_le, unwrap_or, ◌/◌, ◌%◌}
 use Rattle.std.specs.List.{list_any}
 use Rattle.std.specs.Option.{option_or}
 use Rattle.std.proofs.lemmas.Bool.Decides.{nat_tests}
 use Rattle.std.proofs.lemmas.List.{append_assoc, length-append, append-nil}
 use Rattle.std.proofs.lemmas.List.Elements.{All-cons, All-nil, All-head, All-tail, All-append}
-use Rattle.fin_base.specs.declared.refusal.Rule.{Rule}
-use Rattle.fin_base.specs.declared.refusal.Refusal.{Refusal}
 use Rattle.fin_tensor.specs.declared.format.Level.{Level}
 use Rattle.fin_tensor.specs.Extents.{dense_size}
 use Rattle.fin_tensor.specs.Levels.{AreSmall}
@@ -18,11 +16,11 @@ use Rattle.fin_ast.specs.declared.place.Place.{Place}
 use Rattle.fin_ast.specs.declared.place.Place.TheVariants.{Loop, Let, Use}
 use Rattle.fin_ast.specs.declared.program.Program.{Program}
 use Rattle.fin_ast.specs.declared.checked.Dims.{Dims}
-use Rattle.fin_ast.specs.Ties.{Node, Dimension, OfLoop, Extents, Shapes, known, number_in, HasExtent}
-use Rattle.fin_ast.specs.Sizes.{broken, first_of, is_large, has_large, large_in_header, large_in_place, first_large, number_of, shape_from, shape_of, shapes_from, range_of, ranges_of, too_dense, first_dense, outside, first_unknown}
+use Rattle.fin_ast.specs.Ties.{Node, Dimension, OfLoop, Shapes, number_in, HasExtent}
+use Rattle.fin_ast.specs.Sizes.{broken, first_of, is_large, has_large, large_in_header, large_in_place, number_of, shape_from, shape_of, shapes_from, ranges_of, too_dense, first_dense, outside, first_unknown}
 use Rattle.fin_ast.specs.Choices.{first_in, crowds_of}
 use Rattle.fin_ast.proofs.Unbroken.{first_none, second_none, unbroken}
-use Rattle.fin_ast.specs.Infer.{given, shapes_in, places_in, large_in, breach_in, dims_in, IsInferred}
+use Rattle.fin_ast.specs.Infer.{given, shapes_in, places_in, dims_in, IsInferred}
 use Rattle.fin_ast.specs.Shaped.{AreShaped, AreRanged, AreSmallShapes, FitHeaders, FoundFit}
 
 -- ---- tests

@@ -3,8 +3,8 @@ use Rattle.std.proofs.Common.{◌≡◌, ℕ, zero, suc, ◌+◌, ◌-◌, ◌<�
 use Rattle.std.specs.Prelude.{slice_set}
 use Rattle.fin_ast.specs.declared.tree.Stmt.{Stmt}
 use Rattle.fin_ast.specs.Value.{Numbers}
-use Rattle.fin_ast.specs.Dense.{Setting, State, Action, braced, ticked, repeated, run_of, run_all}
-use Rattle.fin_ast.proofs.Keeps.{StepsKeep, run_keeps, run_all_keeps}
+use Rattle.fin_ast.specs.Dense.{Setting, State, Action, braced, ticked, repeated, run_all}
+use Rattle.fin_ast.proofs.Keeps.{StepsKeep, run_all_keeps}
 
 abbrev pub Rises : Action → Type 0
 Rises a = (vars : Numbers) (s : State) → s.turns ≤ (a vars s).turns
@@ -16,9 +16,6 @@ steps_rise w n = record {
   declares = λ tensor s h. h;
   updates = λ tensor at by v s h. h;
 }
-
-pub run_rises : (w : Setting) (s : Stmt) → Rises (run_of w s)
-run_rises w t vars s = run_keeps w (λ x. s.turns ≤ x.turns) (steps_rise w s.turns) t vars s (omega arith)
 
 pub run_all_rises : (w : Setting) (ss : List Stmt) → Rises (run_all w ss)
 run_all_rises w ss vars s = run_all_keeps w (λ x. s.turns ≤ x.turns) (steps_rise w s.turns) ss vars s (omega arith)

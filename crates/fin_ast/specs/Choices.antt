@@ -1,5 +1,5 @@
 -- B3: a loop that stands in no other loop holds at most 8 choices.
-use Rattle.std.specs.Prelude.{ℕ, ◌+◌, Bool, not, ◌&&◌, nat_lt, List, [], ◌∷◌, map, Option, Some, None, slice_get, if◌then◌else◌}
+use Rattle.std.specs.Prelude.{ℕ, ◌+◌, not, ◌&&◌, nat_lt, List, [], ◌∷◌, map, Option, Some, None, slice_get, if◌then◌else◌}
 use Rattle.std.specs.Option.{option_or}
 use Rattle.fin_base.specs.declared.refusal.Rule.TheVariants.{B3}
 use Rattle.fin_base.specs.declared.refusal.Refusal.{Refusal}

@@ -1,7 +1,6 @@
 -- Dense evaluation: what a program does to tensor functions. It visits every coordinate of every extent.
-use Rattle.std.specs.Prelude.{ℕ, zero, suc, ◌+◌, ◌-◌, Bool, ℤ, pos, if◌then◌else◌, List, [], ◌∷◌, map, Option, Some, None, is_some, option_map, unwrap_or, slice_get, slice_index_or, slice_set}
+use Rattle.std.specs.Prelude.{ℕ, ◌+◌, Bool, ℤ, pos, if◌then◌else◌, List, [], ◌∷◌, map, Option, Some, None, is_some, option_map, unwrap_or, slice_get, slice_index_or, slice_set}
 use Rattle.std.specs.Option.{option_or}
-use Rattle.std.specs.Ordering.{int_eq}
 use Rattle.fin_base.specs.Words.{apply}
 use Rattle.fin_base.specs.declared.reduce.Reduce.{Reduce}
 use Rattle.fin_tensor.specs.TensorFunction.{TensorFunction, filled, changed}
@@ -10,10 +9,11 @@ use Rattle.fin_tensor.specs.declared.storage.Storage.{Storage}
 use Rattle.fin_ast.specs.declared.header.Header.{Header}
 use Rattle.fin_ast.specs.declared.checked.Dims.{Dims}
 use Rattle.fin_ast.specs.declared.checked.Checked.{Checked}
-use Rattle.fin_ast.specs.declared.tree.Stmt.{Stmt, fold-Stmt}
-use Rattle.fin_ast.specs.declared.tree.Stmt.TheOpen.{Stmt-F}
+use Rattle.fin_ast.specs.declared.tree.Stmt.{Stmt}
 use Rattle.fin_ast.specs.Kinds.{is_input}
 use Rattle.fin_ast.specs.Value.{Numbers, Tensors, place, coordinates, value_of}
+use Rattle.fin_ast.specs.Actions as acts
+use Rattle.fin_ast.specs.Actions.{Leaf, Declare, Freeze, Thaw, Update, Turn, Parts, act, act_all}
 
 -- ---- what a program is run over
 
@@ -57,12 +57,7 @@ tensors_in w s tensor = option_or (made_at w.given tensor) (made_at s.made tenso
 -- ---- statements
 
 abbrev pub Action : Type 0
-Action = Numbers → State → State
-
--- one after another
-abbrev pub in_turn : List Action → Action
-in_turn [] vars s = s
-in_turn (a ∷ rest) vars s = in_turn rest vars (a vars s)
+Action = acts.Action State
 
 -- the tensors that were there before stay, and the others are gone
 abbrev pub kept : List Bool → Made → Made
@@ -70,24 +65,27 @@ kept [] ts = ts
 kept (b ∷ bs) [] = []
 kept (b ∷ bs) (t ∷ ts) = (if b then t else None) ∷ kept bs ts
 
+-- what a body declares first is gone at its end
 abbrev pub closed : Made → State → State
 closed before s = record { made = kept (map is_some before) s.made; turns = s.turns }
 
--- a body in braces: what it declares first is gone at its end
+abbrev pub close : State → State → State
+close before s = closed before.made s
+
 abbrev pub braced : Action → Action
-braced body vars s = closed s.made (body vars s)
+braced = acts.braced close
 
 abbrev pub ticked : State → State
 ticked s = record { made = s.made; turns = s.turns + 1 }
 
--- the body at n numbers from lo on
-abbrev pub repeated : ℕ → ℕ → ℕ → Action → Action
-repeated zero lo var body vars s = s
-repeated (suc n) lo var body vars s = repeated n (lo + 1) var body vars (body (slice_set vars var (pos lo)) (ticked s))
+abbrev pub turn : Turn State
+turn var vars n body s = body (ticked s)
 
--- the body at each number of a range
+abbrev pub repeated : ℕ → ℕ → ℕ → Action → Action
+repeated = acts.repeated turn
+
 abbrev pub looped : ℕ × ℕ → ℕ → Action → Action
-looped range var body = repeated (range.1 - range.0) range.0 var body
+looped = acts.looped turn
 
 abbrev pub with_tensor : State → ℕ → Option TensorFunction → State
 with_tensor s tensor f = record { made = slice_set s.made tensor f; turns = s.turns }
@@ -108,22 +106,27 @@ updated_if (Some f) at by v = Some (updated_at f (coordinates f.shape at) by v)
 abbrev pub updated : ℕ → List ℤ → Reduce → ℤ → State → State
 updated tensor at by v s = with_tensor s tensor (updated_if (made_at s.made tensor) at by v)
 
--- one node, with what each inner statement does in its place; `for` and `par` are the same
-abbrev pub run_step : Setting → Stmt-F Action → Action
-run_step w (Stmt-F.Block body line last) vars s = braced (in_turn body) vars s
-run_step w (Stmt-F.Loop var range par body line last) vars s = looped (range_of w var) var (braced (in_turn body)) vars s
-run_step w (Stmt-F.Cond test body line last) vars s = if int_eq (value_of test vars (tensors_in w s)) (pos 0) then s else braced (in_turn body) vars s
-run_step w (Stmt-F.Bind var value body line last) vars s = braced (in_turn body) (slice_set vars var (value_of value vars (tensors_in w s))) s
-run_step w (Stmt-F.Declare tensor value line) vars s = declared w tensor s
-run_step w (Stmt-F.Freeze tensor line) vars s = s
-run_step w (Stmt-F.Thaw tensor line) vars s = s
-run_step w (Stmt-F.Update tensor at by value line) vars s = updated tensor (map (place vars) at) by (value_of value vars (tensors_in w s)) s
+abbrev pub leaf : Setting → Leaf → Action
+leaf w (Declare tensor) vars s = declared w tensor s
+leaf w (Freeze tensor) vars s = s
+leaf w (Thaw tensor) vars s = s
+leaf w (Update tensor at by value) vars s = updated tensor (map (place vars) at) by (value_of value vars (tensors_in w s)) s
+
+abbrev pub evaluating : Setting → Parts State
+evaluating w = record {
+  range = range_of w;
+  value = λ e vars after s. after (value_of e vars (tensors_in w s)) s;
+  entry = λ var vars s. s;
+  turn = turn;
+  brace = close;
+  leaf = leaf w;
+}
 
 abbrev pub run_of : Setting → Stmt → Action
-run_of w = fold-Stmt Action (run_step w)
+run_of w = act (evaluating w)
 
 abbrev pub run_all : Setting → List Stmt → Action
-run_all w body = in_turn (map (run_of w) body)
+run_all w = act_all (evaluating w)
 
 -- ---- whole programs
 

@@ -1,5 +1,5 @@
 -- What is found of the dimensions of a program: all numbers, or the first breach.
-use Rattle.std.specs.Prelude.{◌≡◌, ℕ, ◌⊎◌, List, [], ◌∷◌, ◌++◌, Option, Some, None}
+use Rattle.std.specs.Prelude.{◌≡◌, ◌⊎◌, List, [], ◌∷◌, ◌++◌, Option, Some, None}
 use Rattle.std.specs.Option.{option_or}
 use Rattle.fin_base.specs.declared.refusal.Rule.TheVariants.{M1}
 use Rattle.fin_base.specs.declared.refusal.Refusal.{Refusal}

@@ -1,12 +1,12 @@
 -- Where freeze and thaw are put into a program.
-use Rattle.std.specs.Prelude.{ℕ, zero, ◌+◌, Bool, false, not, ◌&&◌, ◌==◌, if◌then◌else◌, List, [], ◌∷◌, ◌++◌, map, Option, Some, None}
+use Rattle.std.specs.Prelude.{ℕ, zero, ◌+◌, Bool, false, not, ◌&&◌, ◌==◌, if◌then◌else◌, List, [], ◌∷◌, ◌++◌, map, Some, None}
 use Rattle.std.specs.List.{list_any}
 use Rattle.fin_ast.specs.declared.header.Header.{Header}
 use Rattle.fin_ast.specs.declared.program.Program.{Program}
 use Rattle.fin_ast.specs.declared.tree.Stmt.{Stmt, fold-Stmt, map-Stmt}
 use Rattle.fin_ast.specs.declared.tree.Stmt.TheOpen.{Stmt-F}
 use Rattle.fin_ast.specs.declared.tree.Stmt.TheVariants.{Block, Loop, Cond, Bind, Declare, Freeze, Thaw, Update}
-use Rattle.fin_ast.specs.Text.{Mark, Opens, Closes, Reads, Updates, Declares, Freezes, Thaws, Text, Writing, text_of_expr, stmt_text, text_of}
+use Rattle.fin_ast.specs.Text.{Mark, Opens, Reads, Updates, Declares, Freezes, Thaws, Text, Writing, text_of_expr, stmt_text, text_of}
 use Rattle.fin_ast.specs.Modes.{is_input_at, mode_before}
 use Rattle.fin_ast.specs.Life.{is_update, is_read, is_output}
 

@@ -15,6 +15,7 @@ pub mod Life
 pub mod Insertion
 pub mod Order
 pub mod Value
+pub mod Actions
 pub mod Dense
 pub mod Shaped
 pub mod Accepted

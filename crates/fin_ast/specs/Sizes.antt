@@ -1,5 +1,5 @@
 -- The rules on numbers, and the shapes and ranges that the extents give.
-use Rattle.std.specs.Prelude.{ℕ, zero, suc, ℤ, pos, negsuc, ◌+◌, ◌-◌, ◌*◌, ◌^◌, Bool, true, false, not, ◌&&◌, ◌||◌, nat_lt, nat_le, unsigned_abs, List, [], ◌∷◌, ◌++◌, Option, Some, None, is_none, unwrap_or, filter_map, slice_index_or}
+use Rattle.std.specs.Prelude.{ℕ, ℤ, pos, negsuc, ◌+◌, ◌-◌, ◌*◌, Bool, true, false, not, ◌&&◌, ◌||◌, nat_lt, nat_le, unsigned_abs, List, [], ◌∷◌, ◌++◌, Option, Some, None, is_none, unwrap_or, filter_map, slice_index_or}
 use Rattle.std.specs.List.{list_any}
 use Rattle.std.specs.Option.{option_or}
 use Rattle.fin_base.specs.declared.refusal.Rule.{Rule}
@@ -10,7 +10,6 @@ use Rattle.fin_tensor.specs.Extents.{dense_size}
 use Rattle.fin_ast.specs.declared.header.Header.{Header}
 use Rattle.fin_ast.specs.declared.place.Place.{Place}
 use Rattle.fin_ast.specs.declared.place.Place.TheVariants.{Loop, Let, Use}
-use Rattle.fin_ast.specs.declared.tree.Index.{Index}
 use Rattle.fin_ast.specs.declared.checked.Dims.{Dims}
 use Rattle.fin_ast.specs.Ties.{Node, Dimension, OfLoop, Extents}
 

@@ -1,5 +1,5 @@
 -- Ties between dimensions and loops, and the numbers to which they lead.
-use Rattle.std.specs.Prelude.{◌≡◌, ◌≢◌, ◌<◌, ℕ, pos, ◌/◌, ◌%◌, ◌↔◌, ◌⊎◌, Bool, true, false, ◌&&◌, nat_eq, nat_le, ◌==◌, if◌then◌else◌, List, [], ◌∷◌, Contains, Option, Some, None, slice_get, slice_index_or, filter, filter_map}
+use Rattle.std.specs.Prelude.{◌≡◌, ◌≢◌, ◌<◌, ℕ, pos, ◌/◌, ◌%◌, ◌↔◌, ◌⊎◌, Bool, true, false, nat_le, ◌==◌, if◌then◌else◌, List, [], ◌∷◌, Contains, Option, Some, None, slice_get, slice_index_or, filter, filter_map}
 use Rattle.std.specs.List.{list_any}
 use Rattle.std.specs.Ordering.{int_eq}
 use Rattle.fin_ast.specs.declared.place.Place.{Place}

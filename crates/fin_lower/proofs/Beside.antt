@@ -29,9 +29,9 @@ use Rattle.fin_ir.specs.Named.{has_tensor, is_named_in, code_step, is_named}
 use Rattle.fin_ir.proofs.Codes.{meaning_seq}
 use Rattle.fin_ir.proofs.Nodes.{of_update, of_declare, of_freeze, of_thaw}
 use Rattle.fin_stage.specs.Stages.{work_of_declaration}
-use Rattle.fin_stage.specs.Staged.{Run, regular, update, asked_for_small, are_small, tensors_of}
+use Rattle.fin_stage.specs.Staged.{Run, regular, update, asked_for_small, are_small, tensors_of, staging}
 use Rattle.fin_stage.proofs.Alive.{left, right, both, holds_there}
-use Rattle.fin_stage.proofs.Equations.{stage_declare, stage_freeze, stage_thaw, stage_update}
+use Rattle.fin_ast.proofs.Acting.{act_declare, act_freeze, act_thaw, act_update}
 use Rattle.fin_stage.proofs.Onward.{Onward, onward_then, small_goes_on, update_goes_on}
 use Rattle.fin_stage.proofs.Simulating.{good_before}
 use Rattle.fin_read.specs.Steps.{Agree}
@@ -65,19 +65,19 @@ module _ (c : Checked) (inputs : List Storage) (fits : FitHeaders c.program.head
 
   declared_goes : (tensor : ℕ) (value : ℤ) (line : ℕ) → Goes c inputs (s.Declare tensor value line)
   declared_goes tensor value line sc ps vars r m p f long same l g =
-      let e = stage_declare (setting_of c inputs) vars r tensor value line in
+      let e = act_declare (staging (setting_of c inputs)) vars r tensor value line in
       by_both c inputs ps _ _ _ _ e (ap (λ (x : Code). meaning (layout_of c) x m) (code_declare (sides_in c) (length ps) tensor value line))
       (declare_goes c inputs fits given_fit ps r m l tensor (there (λ (h : Header). int_eq value h.format.fill) sc tensor p.headers (declared_named c sc (length ps) tensor value line f)) (sym (ap regular e) ∙ g))
 
   frozen_goes : (tensor line : ℕ) → Goes c inputs (s.Freeze tensor line)
   frozen_goes tensor line sc ps vars r m p f long same l g =
-      let e = stage_freeze (setting_of c inputs) vars r tensor line in
+      let e = act_freeze (staging (setting_of c inputs)) vars r tensor line in
       by_both c inputs ps _ _ _ _ e (ap (λ (x : Code). meaning (layout_of c) x m) (code_freeze (sides_in c) (length ps) tensor line))
       (freeze_goes c inputs fits given_fit counts_mean ps r m l tensor (sym (ap regular e) ∙ g))
 
   thawed_goes : (tensor line : ℕ) → Goes c inputs (s.Thaw tensor line)
   thawed_goes tensor line sc ps vars r m p f long same l g =
-      let e = stage_thaw (setting_of c inputs) vars r tensor line in
+      let e = act_thaw (staging (setting_of c inputs)) vars r tensor line in
       by_both c inputs ps _ _ _ _ e (ap (λ (x : Code). meaning (layout_of c) x m) (code_thaw (sides_in c) (length ps) tensor line))
       (thaw_goes c inputs fits given_fit counts_mean ps r m l tensor (sym (ap regular e) ∙ g))
 
@@ -89,7 +89,7 @@ module _ (c : Checked) (inputs : List Storage) (fits : FitHeaders c.program.head
       let zs : List ℤ = map (place vars) at in
       let after : ℤ → Run → Run = λ v n. update (setting_of c inputs) tensor zs by v (asked_for_small (are_small vars at) n) in
       let on : (v : ℤ) (n : Run) → Onward n (after v n) = λ v n. onward_then n (asked_for_small (are_small vars at) n) (after v n) (small_goes_on (are_small vars at) n) (update_goes_on (setting_of c inputs) tensor zs by v (asked_for_small (are_small vars at) n)) in
-      let e = stage_update (setting_of c inputs) vars r tensor at by value line in
+      let e = act_update (staging (setting_of c inputs)) vars r tensor at by value line in
       let q : Asked (setting_of c inputs) value vars after r = asked (setting_of c inputs) value vars after r on (sym (ap regular e) ∙ g) in
       let v : Lowered = value_code (heads_in c) value (length ps) in
       let z : ℤ = value_of value vars (tensors_of (setting_of c inputs) r) in

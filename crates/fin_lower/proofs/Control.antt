@@ -19,8 +19,8 @@ use Rattle.fin_ir.specs.Value.{value_in, is_off}
 use Rattle.fin_ir.specs.Meaning.{meaning, meaning_all, for_loop, for_turns}
 use Rattle.fin_ir.proofs.Codes.{meaning_seq, meaning_when, meaning_for_loop, meaning_assign}
 use Rattle.fin_ir.proofs.Values.{value_num}
-use Rattle.fin_stage.specs.Staged.{Run, Action, regular, worked, braced, repeated, tensors_of, stage_all}
-use Rattle.fin_stage.proofs.Equations.{stage_block, stage_loop, stage_cond, stage_bind}
+use Rattle.fin_stage.specs.Staged.{Run, Action, regular, worked, braced, repeated, tensors_of, stage_all, staging}
+use Rattle.fin_ast.proofs.Acting.{act_block, act_loop, act_cond, act_bind}
 use Rattle.fin_stage.proofs.Onward.{Onward, onward_still, either_goes_on, braced_goes_on, all_go_on}
 use Rattle.fin_read.specs.Steps.{Agree}
 use Rattle.fin_read.specs.Values.{Lowered, value_code, prelude}
@@ -49,7 +49,7 @@ module _ (c : Checked) (inputs : List Storage) where
 
   pub block_goes : (body : List Stmt) (line last : ℕ) → AllOf (Goes c inputs) body → Goes c inputs (s.Block body line last)
   block_goes body line last all sc ps vars r m p f long same l g =
-      let e = stage_block (setting_of c inputs) vars r body line last in
+      let e = act_block (staging (setting_of c inputs)) vars r body line last in
       let d = ap (λ (x : Code). meaning (layout_of c) x m) (code_block (sides_in c) (length ps) body line last) ∙ meaning_seq (layout_of c) (code_of_all (sides_in c) (length ps) body) m in
       by_both ps _ _ _ _ e d (body_goes c inputs body all sc ps vars r m p (block_fits c sc (length ps) body line last f) long same l (sym (ap regular e) ∙ g))
 
@@ -93,7 +93,7 @@ module _ (c : Checked) (inputs : List Storage) where
       let first : var < length ps = omega (arith, bound.0, p.after) in
       let turn : Code = Seq (charge_of 1 ∷ code_of_all (sides_in c) (length ps + 1) body) in
       let a : Action = braced (stage_all (setting_of c inputs) body) in
-      let e = stage_loop (setting_of c inputs) vars r var range par body line last in
+      let e = act_loop (staging (setting_of c inputs)) vars r var range par body line last in
       let base : List ℤ = with_saved ps var in
       let m1 : Machine = meaning (layout_of c) (charge_of 1) m in
       let m2 : Machine = meaning (layout_of c) (move_code (length ps) var) m1 in
@@ -121,7 +121,7 @@ module _ (c : Checked) (inputs : List Storage) where
         let a : Action = braced (stage_all (setting_of c inputs) body) in
         let after : ℤ → Run → Run = λ v n. if int_eq v (pos 0) then n else a vars n in
         let on : (v : ℤ) (n : Run) → Onward n (after v n) = λ v n. either_goes_on (int_eq v (pos 0)) n n (a vars n) (onward_still n) (braced_goes_on (stage_all (setting_of c inputs) body) (all_go_on (setting_of c inputs) body) vars n) in
-        let e = stage_cond (setting_of c inputs) vars r test body line last in
+        let e = act_cond (staging (setting_of c inputs)) vars r test body line last in
         let q : Asked (setting_of c inputs) test vars after (worked 1 r) = asked (setting_of c inputs) test vars after (worked 1 r) on (sym (ap regular e) ∙ g) in
         let v : Lowered = value_code (heads_in c) test (length ps) in
         let z : ℤ = value_of test vars (tensors_of (setting_of c inputs) (worked 1 r)) in
@@ -146,7 +146,7 @@ module _ (c : Checked) (inputs : List Storage) where
         let a : Action = braced (stage_all (setting_of c inputs) body) in
         let after : ℤ → Run → Run = λ v n. a (slice_set vars var v) n in
         let on : (v : ℤ) (n : Run) → Onward n (after v n) = λ v n. braced_goes_on (stage_all (setting_of c inputs) body) (all_go_on (setting_of c inputs) body) (slice_set vars var v) n in
-        let e = stage_bind (setting_of c inputs) vars r var value body line last in
+        let e = act_bind (staging (setting_of c inputs)) vars r var value body line last in
         let q : Asked (setting_of c inputs) value vars after (worked 1 r) = asked (setting_of c inputs) value vars after (worked 1 r) on (sym (ap regular e) ∙ g) in
         let bound = bind_bound c sc (length ps) var value body line last f in
         let inner : BodyFits c body (within_let sc var) (length ps + 1) = bind_fits c sc (length ps) var value body line last f in

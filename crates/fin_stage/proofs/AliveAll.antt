@@ -22,11 +22,11 @@ use Rattle.fin_ast.specs.Dense.{Setting, made_at, range_of, shape_at}
 use Rattle.fin_ast.proofs.Nodes.{of_block, of_loop, of_cond, of_bind, of_declare, of_freeze, of_thaw, of_update}
 use Rattle.fin_life.specs.Passage.{ModeOf, Passage, turned, breach_of_expr, breach_in, after_all, body_breach, stmt_passage, passage_of, passages_of}
 use Rattle.fin_stage.specs.Stages.{Stage, Absent, Built, Frozen, stage_at, work_of_declaration, work_of_storing}
-use Rattle.fin_stage.specs.Staged.{Run, worked, with_stage, unalive, unordered, with_value, asked_to_read, asked_for_small, has_small_indices, can_read, tensors_of, are_small, braced, repeated, looped, is_made, declare, freeze, freeze_at, thaw, thaw_at, put_at, update_at, update, format_at, stage_of, stage_all}
+use Rattle.fin_stage.specs.Staged.{Run, worked, with_stage, unalive, unordered, with_value, asked_to_read, asked_for_small, has_small_indices, can_read, tensors_of, are_small, braced, repeated, looped, is_made, declare, freeze, freeze_at, thaw, thaw_at, put_at, update_at, update, format_at, staging, stage_of, stage_all}
 use Rattle.fin_tensor.specs.Building.{started}
 use Rattle.fin_tensor.specs.Canon.{undecorated}
 use Rattle.fin_ast.proofs.Induction.{AllOf, Cases, by_kind, all_by_kind}
-use Rattle.fin_stage.proofs.Equations.{stage_block, stage_loop, stage_cond, stage_bind, stage_declare, stage_freeze, stage_thaw, stage_update}
+use Rattle.fin_ast.proofs.Acting.{act_block, act_loop, act_cond, act_bind, act_declare, act_freeze, act_thaw, act_update}
 use Rattle.fin_stage.proofs.Onward.{Onward, braced_goes_on, all_go_on}
 use Rattle.fin_ast.proofs.Unbroken.{first_none, second_none, unbroken}
 use Rattle.fin_stage.proofs.Agreeing.{Agrees, closes_agree}
@@ -127,34 +127,34 @@ module _ (hs : List Header) (w : Setting) (given_is : (t : ℕ) → is_some (mad
   cases : Cases Lives
   cases = record {
     block = λ body line last all. by_equations (s.Block body line last) (stmt_passage hs (Stmt-F.Block (passages_of hs body) line last)) (stmt_step (Stmt-F.Block (map is_named body) line last)) (λ vars r. braced (stage_all w body) vars r)
-        (of_block Passage (stmt_passage hs) body line last) (of_block (Scope → Bool) stmt_step body line last) (λ vars r. stage_block w vars r body line last)
+        (of_block Passage (stmt_passage hs) body line last) (of_block (Scope → Bool) stmt_step body line last) (λ vars r. act_block (staging w) vars r body line last)
         (λ sc begin now vars r eh en eb l. braced_lives body all sc now last vars r eh en eb l);
     loop = λ var range par body line last all. by_equations (s.Loop var range par body line last) (stmt_passage hs (Stmt-F.Loop var range par (passages_of hs body) line last)) (stmt_step (Stmt-F.Loop var range par (map is_named body) line last)) (λ vars r. looped (range_of w var) var (braced (stage_all w body)) vars r)
-        (of_loop Passage (stmt_passage hs) var range par body line last) (of_loop (Scope → Bool) stmt_step var range par body line last) (λ vars r. stage_loop w vars r var range par body line last)
+        (of_loop Passage (stmt_passage hs) var range par body line last) (of_loop (Scope → Bool) stmt_step var range par body line last) (λ vars r. act_loop (staging w) vars r var range par body line last)
         (λ sc begin now vars r eh en eb l. repeated_lives body all (within_loop sc var) now last eh en eb ((range_of w var).1 - (range_of w var).0) (range_of w var).0 var vars (worked 1 r) (worked_lives hs w given_is now 1 r l));
     cond = λ test body line last all. by_equations (s.Cond test body line last) (stmt_passage hs (Stmt-F.Cond test (passages_of hs body) line last)) (stmt_step (Stmt-F.Cond test (map is_named body) line last)) (λ vars r. with_value w test vars (λ v x. if int_eq v (pos 0) then x else braced (stage_all w body) vars x) (worked 1 r))
-        (of_cond Passage (stmt_passage hs) test body line last) (of_cond (Scope → Bool) stmt_step test body line last) (λ vars r. stage_cond w vars r test body line last)
+        (of_cond Passage (stmt_passage hs) test body line last) (of_cond (Scope → Bool) stmt_step test body line last) (λ vars r. act_cond (staging w) vars r test body line last)
         (λ sc begin now vars r eh en eb l.
         let x : Run = asked_for_small (has_small_indices test vars) (asked_to_read (can_read test (tensors_of w (worked 1 r))) (worked 1 r)) in
         let lx : Alive now x = ready hs w given_is now test vars (worked 1 r) (first_none _ _ eb) (worked_lives hs w given_is now 1 r l) in
         either hs w given_is now (int_eq (value_of test vars (tensors_of w (worked 1 r))) (pos 0)) x (braced (stage_all w body) vars x) lx (braced_lives body all sc now last vars x eh (right (is_named_expr test sc) (are_named body sc) en) (second_none (breach_of_expr now test) _ eb) lx));
     bind = λ var value body line last all. by_equations (s.Bind var value body line last) (stmt_passage hs (Stmt-F.Bind var value (passages_of hs body) line last)) (stmt_step (Stmt-F.Bind var value (map is_named body) line last)) (λ vars r. with_value w value vars (λ v x. braced (stage_all w body) (slice_set vars var v) x) (worked 1 r))
-        (of_bind Passage (stmt_passage hs) var value body line last) (of_bind (Scope → Bool) stmt_step var value body line last) (λ vars r. stage_bind w vars r var value body line last)
+        (of_bind Passage (stmt_passage hs) var value body line last) (of_bind (Scope → Bool) stmt_step var value body line last) (λ vars r. act_bind (staging w) vars r var value body line last)
         (λ sc begin now vars r eh en eb l.
         let x : Run = asked_for_small (has_small_indices value vars) (asked_to_read (can_read value (tensors_of w (worked 1 r))) (worked 1 r)) in
         let lx : Alive now x = ready hs w given_is now value vars (worked 1 r) (first_none _ _ eb) (worked_lives hs w given_is now 1 r l) in
         braced_lives body all (within_let sc var) now last (slice_set vars var (value_of value vars (tensors_of w (worked 1 r)))) x eh (right (is_named_expr value sc) (are_named body (within_let sc var)) en) (second_none (breach_of_expr now value) _ eb) lx);
     declare = λ tensor value line. by_equations (s.Declare tensor value line) (stmt_passage hs (Stmt-F.Declare tensor value line)) (stmt_step (Stmt-F.Declare tensor value line)) (λ vars r. declare w tensor r)
-        (of_declare Passage (stmt_passage hs) tensor value line) (of_declare (Scope → Bool) stmt_step tensor value line) (λ vars r. stage_declare w vars r tensor value line)
+        (of_declare Passage (stmt_passage hs) tensor value line) (of_declare (Scope → Bool) stmt_step tensor value line) (λ vars r. act_declare (staging w) vars r tensor value line)
         (λ sc begin now vars r eh en eb l. declare_lives sc tensor line begin now r (there sc tensor _ eh en) eb l);
     freeze = λ tensor line. by_equations (s.Freeze tensor line) (stmt_passage hs (Stmt-F.Freeze tensor line)) (stmt_step (Stmt-F.Freeze tensor line)) (λ vars r. freeze tensor r)
-        (of_freeze Passage (stmt_passage hs) tensor line) (of_freeze (Scope → Bool) stmt_step tensor line) (λ vars r. stage_freeze w vars r tensor line)
+        (of_freeze Passage (stmt_passage hs) tensor line) (of_freeze (Scope → Bool) stmt_step tensor line) (λ vars r. act_freeze (staging w) vars r tensor line)
         (λ sc begin now vars r eh en eb l. freeze_lives tensor line begin now r (there sc tensor _ eh en) eb l);
     thaw = λ tensor line. by_equations (s.Thaw tensor line) (stmt_passage hs (Stmt-F.Thaw tensor line)) (stmt_step (Stmt-F.Thaw tensor line)) (λ vars r. thaw w tensor r)
-        (of_thaw Passage (stmt_passage hs) tensor line) (of_thaw (Scope → Bool) stmt_step tensor line) (λ vars r. stage_thaw w vars r tensor line)
+        (of_thaw Passage (stmt_passage hs) tensor line) (of_thaw (Scope → Bool) stmt_step tensor line) (λ vars r. act_thaw (staging w) vars r tensor line)
         (λ sc begin now vars r eh en eb l. thaw_lives tensor line begin now r (there sc tensor _ eh en) eb l);
     update = λ tensor at by value line. by_equations (s.Update tensor at by value line) (stmt_passage hs (Stmt-F.Update tensor at by value line)) (stmt_step (Stmt-F.Update tensor at by value line)) (λ vars r. with_value w value vars (λ v x. update w tensor (map (place vars) at) by v (asked_for_small (are_small vars at) x)) r)
-        (of_update Passage (stmt_passage hs) tensor at by value line) (of_update (Scope → Bool) stmt_step tensor at by value line) (λ vars r. stage_update w vars r tensor at by value line)
+        (of_update Passage (stmt_passage hs) tensor at by value line) (of_update (Scope → Bool) stmt_step tensor at by value line) (λ vars r. act_update (staging w) vars r tensor at by value line)
         (λ sc begin now vars r eh en eb l.
         let x : Run = asked_for_small (has_small_indices value vars) (asked_to_read (can_read value (tensors_of w r)) r) in
         let lx : Alive now x = ready hs w given_is now value vars r (second_none (breach_by hs begin now (Updates tensor [] line)) _ eb) l in

@@ -16,7 +16,8 @@ use Rattle.fin_life.specs.Passage.{ModeOf, Passage, turned, breach_of_expr, brea
 use Rattle.fin_ast.proofs.Induction.{AllOf, Cases, all_by_kind}
 use Rattle.fin_ast.proofs.Unbroken.{first_none, second_none, unbroken}
 use Rattle.fin_stage.proofs.Alive.{neither}
-use Rattle.fin_stage.proofs.Touching.{declares, any_declares, declares_block, declares_loop, declares_cond, declares_bind, declares_declare, declares_freeze, declares_thaw, declares_update, same_tensor}
+use Rattle.fin_stage.proofs.Touching.{is_declaration_of, declares, any_declares, same_tensor}
+use Rattle.fin_ast.proofs.Leaves.{leaf_block, leaf_loop, leaf_cond, leaf_bind, leaf_declare, leaf_freeze, leaf_thaw, leaf_update}
 
 module _ (hs : List Header) (t : ℕ) where
   -- a declared tensor stays declared, whatever it is led to
@@ -56,19 +57,19 @@ module _ (hs : List Header) (t : ℕ) where
 
   cases : Cases Fresh
   cases = record {
-    block = λ body line last all. by_equations (s.Block body line last) (stmt_passage hs (Stmt-F.Block (passages_of hs body) line last)) (any_declares t body) (of_block Passage (stmt_passage hs) body line last) (declares_block t body line last)
+    block = λ body line last all. by_equations (s.Block body line last) (stmt_passage hs (Stmt-F.Block (passages_of hs body) line last)) (any_declares t body) (of_block Passage (stmt_passage hs) body line last) (leaf_block (is_declaration_of t) body line last)
         (λ begin now e db dn. (body_fresh body all last now e dn, dn));
-    loop = λ var range par body line last all. by_equations (s.Loop var range par body line last) (stmt_passage hs (Stmt-F.Loop var range par (passages_of hs body) line last)) (any_declares t body) (of_loop Passage (stmt_passage hs) var range par body line last) (declares_loop t var range par body line last)
+    loop = λ var range par body line last all. by_equations (s.Loop var range par body line last) (stmt_passage hs (Stmt-F.Loop var range par (passages_of hs body) line last)) (any_declares t body) (of_loop Passage (stmt_passage hs) var range par body line last) (leaf_loop (is_declaration_of t) var range par body line last)
         (λ begin now e db dn. (body_fresh body all last now e dn, dn));
-    cond = λ test body line last all. by_equations (s.Cond test body line last) (stmt_passage hs (Stmt-F.Cond test (passages_of hs body) line last)) (any_declares t body) (of_cond Passage (stmt_passage hs) test body line last) (declares_cond t test body line last)
+    cond = λ test body line last all. by_equations (s.Cond test body line last) (stmt_passage hs (Stmt-F.Cond test (passages_of hs body) line last)) (any_declares t body) (of_cond Passage (stmt_passage hs) test body line last) (leaf_cond (is_declaration_of t) test body line last)
         (λ begin now e db dn. (body_fresh body all last now (second_none (breach_of_expr now test) _ e) dn, dn));
-    bind = λ var value body line last all. by_equations (s.Bind var value body line last) (stmt_passage hs (Stmt-F.Bind var value (passages_of hs body) line last)) (any_declares t body) (of_bind Passage (stmt_passage hs) var value body line last) (declares_bind t var value body line last)
+    bind = λ var value body line last all. by_equations (s.Bind var value body line last) (stmt_passage hs (Stmt-F.Bind var value (passages_of hs body) line last)) (any_declares t body) (of_bind Passage (stmt_passage hs) var value body line last) (leaf_bind (is_declaration_of t) var value body line last)
         (λ begin now e db dn. (body_fresh body all last now (second_none (breach_of_expr now value) _ e) dn, dn));
-    declare = λ tensor value line. by_equations (s.Declare tensor value line) (stmt_passage hs (Stmt-F.Declare tensor value line)) (nat_eq tensor t) (of_declare Passage (stmt_passage hs) tensor value line) (declares_declare t tensor value line)
+    declare = λ tensor value line. by_equations (s.Declare tensor value line) (stmt_passage hs (Stmt-F.Declare tensor value line)) (nat_eq tensor t) (of_declare Passage (stmt_passage hs) tensor value line) (leaf_declare (is_declaration_of t) tensor value line)
         (λ begin now e db dn. (declare_fresh tensor line begin now e db, stays now tensor Update refl dn));
-    freeze = λ tensor line. by_equations (s.Freeze tensor line) (stmt_passage hs (Stmt-F.Freeze tensor line)) false (of_freeze Passage (stmt_passage hs) tensor line) (declares_freeze t tensor line) (λ begin now e db dn. (refl, stays now tensor Read refl dn));
-    thaw = λ tensor line. by_equations (s.Thaw tensor line) (stmt_passage hs (Stmt-F.Thaw tensor line)) false (of_thaw Passage (stmt_passage hs) tensor line) (declares_thaw t tensor line) (λ begin now e db dn. (refl, stays now tensor Update refl dn));
-    update = λ tensor at by value line. by_equations (s.Update tensor at by value line) (stmt_passage hs (Stmt-F.Update tensor at by value line)) false (of_update Passage (stmt_passage hs) tensor at by value line) (declares_update t tensor at by value line) (λ begin now e db dn. (refl, dn));
+    freeze = λ tensor line. by_equations (s.Freeze tensor line) (stmt_passage hs (Stmt-F.Freeze tensor line)) false (of_freeze Passage (stmt_passage hs) tensor line) (leaf_freeze (is_declaration_of t) tensor line) (λ begin now e db dn. (refl, stays now tensor Read refl dn));
+    thaw = λ tensor line. by_equations (s.Thaw tensor line) (stmt_passage hs (Stmt-F.Thaw tensor line)) false (of_thaw Passage (stmt_passage hs) tensor line) (leaf_thaw (is_declaration_of t) tensor line) (λ begin now e db dn. (refl, stays now tensor Update refl dn));
+    update = λ tensor at by value line. by_equations (s.Update tensor at by value line) (stmt_passage hs (Stmt-F.Update tensor at by value line)) false (of_update Passage (stmt_passage hs) tensor at by value line) (leaf_update (is_declaration_of t) tensor at by value line) (λ begin now e db dn. (refl, dn));
   }
 
   -- the statements of a body at whose beginning the tensor is declared declare it nowhere

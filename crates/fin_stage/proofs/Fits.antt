@@ -1,7 +1,6 @@
 -- The stages of tensors fit the headers, whatever a statement does.
-use Rattle.std.proofs.Common.{◌≡◌, ℕ, ℤ, pos, zero, suc, ◌+◌, ◌-◌, Bool, true, false, List, [], ◌∷◌, map, Option, Some, None, if◌then◌else◌, refl, sym, ap, subst, inl, inr, ◌⊎◌}
+use Rattle.std.proofs.Common.{◌≡◌, ℕ, ℤ, pos, zero, suc, Bool, true, false, List, [], ◌∷◌, map, Option, Some, None, if◌then◌else◌, refl, sym, ap, subst, inl, inr, ◌⊎◌}
 use Rattle.std.specs.Prelude.{slice_set, slice_get, unwrap_or, option_map}
-use Rattle.std.specs.Ordering.{int_eq}
 use Rattle.fin_base.specs.Words.{apply}
 use Rattle.fin_base.specs.declared.reduce.Reduce.{Reduce}
 use Rattle.fin_tensor.specs.TensorFunction.{value_at}
@@ -12,13 +11,13 @@ use Rattle.fin_ast.specs.declared.header.Header.{Header}
 use Rattle.fin_ast.specs.declared.tree.Expr.{Expr}
 use Rattle.fin_ast.specs.declared.tree.Stmt.{Stmt}
 use Rattle.fin_ast.specs.Value.{Numbers, place, coordinates, value_of}
-use Rattle.fin_ast.specs.Dense.{Setting, range_of, shape_at}
+use Rattle.fin_ast.specs.Dense.{Setting, shape_at}
 use Rattle.fin_ast.proofs.InBox.{in_box}
 use Rattle.fin_stage.specs.Stages.{Stage, Absent, Built, Frozen, stage_at, is_declared, kept}
-use Rattle.fin_stage.specs.Staged.{Run, Action, worked, unalive, unsmall, unordered, with_value, tensors_of, can_read, has_small_indices, asked_to_read, asked_for_small, are_small, braced, repeated, is_made, declare, freeze_at, thaw_at, put_at, update_at, update, no_format, format_at, stage_of, stage_all}
+use Rattle.fin_stage.specs.Staged.{Run, worked, unalive, unsmall, unordered, with_value, tensors_of, can_read, has_small_indices, asked_to_read, asked_for_small, are_small, braced, is_made, declare, freeze_at, thaw_at, put_at, update_at, update, no_format, format_at, leaf, staging, stage_of, stage_all}
 use Rattle.fin_stage.specs.Fitting.{FunctionFits, StageFits, StagesFit}
-use Rattle.fin_ast.proofs.Induction.{AllOf, Cases, by_kind, all_by_kind}
-use Rattle.fin_stage.proofs.Equations.{stage_block, stage_loop, stage_cond, stage_bind, stage_declare, stage_freeze, stage_thaw, stage_update}
+use Rattle.fin_ast.proofs.Alike.{none, AreAll, act_is, act_all_is}
+use Rattle.fin_ast.specs.Actions.{Leaf, Declare, Freeze, Thaw, Update}
 
 -- ---- one stage of a list
 
@@ -108,43 +107,39 @@ module _ (w : Setting) where
 
   -- ---- all statements
 
-  abbrev pub KeepsFit : Action → Type 0
-  KeepsFit a = (vars : Numbers) (r : Run) → StagesFit w r.stages → StagesFit w (a vars r).stages
+  abbrev pub KeepsFit : (Run → Run) → Type 0
+  KeepsFit f = (r : Run) → StagesFit w r.stages → StagesFit w (f r).stages
 
-  value_fits : (e : Expr) (vars : Numbers) (after : ℤ → Run → Run) → ((v : ℤ) (r : Run) → StagesFit w r.stages → StagesFit w (after v r).stages) → (r : Run) → StagesFit w r.stages → StagesFit w (with_value w e vars after r).stages
+  value_fits : (e : Expr) (vars : Numbers) (after : ℤ → Run → Run) → ((v : ℤ) → KeepsFit (after v)) → KeepsFit (with_value w e vars after)
   value_fits e vars after g r h =
       let read : Run = asked_to_read (can_read e (tensors_of w r)) r in
       g (value_of e vars (tensors_of w r)) (asked_for_small (has_small_indices e vars) read) (small_fits (has_small_indices e vars) read (either (can_read e (tensors_of w r)) r (unalive r) h h))
 
-  pub braced_fits : (a : Action) → KeepsFit a → KeepsFit (braced a)
-  braced_fits a g vars r h = kept_fits r.stages (a vars r).stages (g vars r h)
+  leaf_fits : (l : Leaf) (vars : Numbers) → KeepsFit (leaf w l vars)
+  leaf_fits (Declare tensor) vars r h = declare_fits tensor r h
+  leaf_fits (Freeze tensor) vars r h = freeze_fits tensor (stage_at r.stages tensor) r (h tensor) h
+  leaf_fits (Thaw tensor) vars r h = either (is_made w tensor) (thaw_at tensor (stage_at r.stages tensor) r) (unalive r) (thaw_fits tensor (stage_at r.stages tensor) r (h tensor) h) h
+  leaf_fits (Update tensor at by value) vars r h =
+      let small : Run → Run = asked_for_small (are_small vars at) in
+      value_fits value vars (λ v x. update w tensor (map (place vars) at) by v (small x)) (λ v x g. update_fits tensor (map (place vars) at) by v (small x) (small_fits (are_small vars at) x g)) r h
 
-  pub repeated_fits : (n lo var : ℕ) (a : Action) → KeepsFit a → KeepsFit (repeated n lo var a)
-  repeated_fits zero lo var a g vars r h = h
-  repeated_fits (suc n) lo var a g vars r h = repeated_fits n (lo + 1) var a g vars (a (slice_set vars var (pos lo)) (worked 1 r)) (g (slice_set vars var (pos lo)) (worked 1 r) h)
-
-  in_turn_fits : (body : List Stmt) → AllOf (λ x. KeepsFit (stage_of w x)) body → KeepsFit (stage_all w body)
-  in_turn_fits [] all vars r h = h
-  in_turn_fits (x ∷ body) all vars r h = in_turn_fits body all.1 vars (stage_of w x vars r) (all.0 vars r h)
-
-  cases : Cases (λ x. KeepsFit (stage_of w x))
-  cases = record {
-    block = λ body line last all vars r h. subst (λ (n : Run). StagesFit w n.stages) (sym (stage_block w vars r body line last)) (braced_fits (stage_all w body) (in_turn_fits body all) vars r h);
-    loop = λ var range par body line last all vars r h. subst (λ (n : Run). StagesFit w n.stages) (sym (stage_loop w vars r var range par body line last))
-        (repeated_fits ((range_of w var).1 - (range_of w var).0) (range_of w var).0 var (braced (stage_all w body)) (braced_fits (stage_all w body) (in_turn_fits body all)) vars (worked 1 r) h);
-    cond = λ test body line last all vars r h. subst (λ (n : Run). StagesFit w n.stages) (sym (stage_cond w vars r test body line last))
-        (value_fits test vars (λ v x. if int_eq v (pos 0) then x else braced (stage_all w body) vars x) (λ v x g. either (int_eq v (pos 0)) x (braced (stage_all w body) vars x) g (braced_fits (stage_all w body) (in_turn_fits body all) vars x g)) (worked 1 r) h);
-    bind = λ var value body line last all vars r h. subst (λ (n : Run). StagesFit w n.stages) (sym (stage_bind w vars r var value body line last))
-        (value_fits value vars (λ v x. braced (stage_all w body) (slice_set vars var v) x) (λ v x g. braced_fits (stage_all w body) (in_turn_fits body all) (slice_set vars var v) x g) (worked 1 r) h);
-    declare = λ tensor value line vars r h. subst (λ (n : Run). StagesFit w n.stages) (sym (stage_declare w vars r tensor value line)) (declare_fits tensor r h);
-    freeze = λ tensor line vars r h. subst (λ (n : Run). StagesFit w n.stages) (sym (stage_freeze w vars r tensor line)) (freeze_fits tensor (stage_at r.stages tensor) r (h tensor) h);
-    thaw = λ tensor line vars r h. subst (λ (n : Run). StagesFit w n.stages) (sym (stage_thaw w vars r tensor line)) (either (is_made w tensor) (thaw_at tensor (stage_at r.stages tensor) r) (unalive r) (thaw_fits tensor (stage_at r.stages tensor) r (h tensor) h) h);
-    update = λ tensor at by value line vars r h. subst (λ (n : Run). StagesFit w n.stages) (sym (stage_update w vars r tensor at by value line))
-        (value_fits value vars (λ v x. update w tensor (map (place vars) at) by v (asked_for_small (are_small vars at) x)) (λ v x g. update_fits tensor (map (place vars) at) by v (asked_for_small (are_small vars at) x) (small_fits (are_small vars at) x g)) r h);
+  parts_fit : AreAll (staging w) none KeepsFit
+  parts_fit = record {
+    range = λ var. refl;
+    still = λ r h. h;
+    joined = λ f f' g g' k k' r h. k' (f r) (k r h);
+    value = λ e vars f g k r h. value_fits e vars f k (worked 1 r) h;
+    entry = λ var vars r h. h;
+    turn = λ var vars n f g k r h. k (worked 1 r) h;
+    brace = λ f g k r h. kept_fits r.stages (f r).stages (k r h);
+    leaf = λ l vars _. leaf_fits l vars;
   }
 
-  pub stage_fits : (x : Stmt) → KeepsFit (stage_of w x)
-  stage_fits = by_kind (λ x. KeepsFit (stage_of w x)) cases
+  pub stage_fits : (x : Stmt) (vars : Numbers) → KeepsFit (stage_of w x vars)
+  stage_fits = act_is (staging w) KeepsFit parts_fit
 
-  pub stages_fit : (body : List Stmt) → KeepsFit (stage_all w body)
-  stages_fit body = in_turn_fits body (all_by_kind (λ x. KeepsFit (stage_of w x)) cases body)
+  pub stages_fit : (body : List Stmt) (vars : Numbers) → KeepsFit (stage_all w body vars)
+  stages_fit = act_all_is (staging w) KeepsFit parts_fit
+
+  pub braced_fits : (body : List Stmt) (vars : Numbers) → KeepsFit (braced (stage_all w body) vars)
+  braced_fits body vars r h = kept_fits r.stages (stage_all w body vars r).stages (stages_fit body vars r h)

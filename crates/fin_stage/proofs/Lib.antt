@@ -1,4 +1,3 @@
-pub mod Equations
 pub mod Onward
 pub mod Fits
 pub mod Agreeing

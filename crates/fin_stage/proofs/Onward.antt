@@ -1,18 +1,17 @@
 -- Work only rises, the flags only fall, and no tensor comes or goes, whatever a statement does.
-use Rattle.std.proofs.Common.{◌≡◌, ℕ, ℤ, pos, zero, suc, ◌+◌, ◌-◌, ◌≤◌, Bool, true, false, List, [], ◌∷◌, map, Option, Some, None, if◌then◌else◌, refl, sym, ap, ◌∙◌, arith, length, subst}
+use Rattle.std.proofs.Common.{◌≡◌, ℕ, ℤ, pos, zero, suc, ◌+◌, ◌≤◌, Bool, true, false, List, [], ◌∷◌, map, Option, Some, None, if◌then◌else◌, refl, ap, ◌∙◌, arith, length}
 use Rattle.std.specs.Prelude.{slice_set}
-use Rattle.std.specs.Ordering.{int_eq}
 use Rattle.std.proofs.lemmas.List.{length-set}
 use Rattle.fin_base.specs.declared.reduce.Reduce.{Reduce}
 use Rattle.fin_tensor.specs.Building.{Building, follows}
 use Rattle.fin_ast.specs.declared.tree.Expr.{Expr}
 use Rattle.fin_ast.specs.declared.tree.Stmt.{Stmt}
 use Rattle.fin_ast.specs.Value.{Numbers, place, coordinates, value_of}
-use Rattle.fin_ast.specs.Dense.{Setting, range_of}
+use Rattle.fin_ast.specs.Dense.{Setting}
 use Rattle.fin_stage.specs.Stages.{Stage, Absent, Built, Frozen, stage_at, kept}
-use Rattle.fin_stage.specs.Staged.{Run, Action, worked, with_stage, unalive, unsmall, unordered, with_value, tensors_of, can_read, has_small_indices, asked_to_read, asked_for_small, are_small, closed, braced, repeated, looped, is_made, declare, freeze_at, thaw_at, put_at, update_at, update, stage_of, stage_all}
-use Rattle.fin_ast.proofs.Induction.{AllOf, Cases, by_kind, all_by_kind}
-use Rattle.fin_stage.proofs.Equations.{stage_block, stage_loop, stage_cond, stage_bind, stage_declare, stage_freeze, stage_thaw, stage_update}
+use Rattle.fin_stage.specs.Staged.{Run, Action, worked, with_stage, unalive, unsmall, unordered, with_value, tensors_of, can_read, has_small_indices, asked_to_read, asked_for_small, are_small, closed, braced, repeated, is_made, declare, freeze_at, thaw_at, put_at, update_at, update, leaf, staging, stage_all}
+use Rattle.fin_ast.proofs.Alike.{none, AreAll, act_all_is}
+use Rattle.fin_ast.specs.Actions.{Leaf, Declare, Freeze, Thaw, Update}
 
 pub record Onward (r n : Run) : Type 0 where
   pub work : r.work ≤ n.work
@@ -70,11 +69,6 @@ asked_goes_on w e vars r =
     let read : Run = asked_to_read (can_read e (tensors_of w r)) r in
     onward_then r read _ (either_goes_on (can_read e (tensors_of w r)) r r (unalive r) (onward_still r) (onward_unalive r)) (either_goes_on (has_small_indices e vars) read read (unsmall read) (onward_still read) (onward_unsmall read))
 
-value_goes_on : (w : Setting) (e : Expr) (vars : Numbers) (after : ℤ → Run → Run) → ((v : ℤ) (r : Run) → Onward r (after v r)) → (r : Run) → Onward r (with_value w e vars after r)
-value_goes_on w e vars after h r =
-    let ready : Run = asked_for_small (has_small_indices e vars) (asked_to_read (can_read e (tensors_of w r)) r) in
-    onward_then r ready (with_value w e vars after r) (asked_goes_on w e vars r) (h (value_of e vars (tensors_of w r)) ready)
-
 pub braced_goes_on : (a : Action) → GoesOn a → GoesOn (braced a)
 braced_goes_on a h vars r = onward_then r (a vars r) (braced a vars r) (h vars r) (onward_closed r.stages (a vars r))
 
@@ -84,20 +78,17 @@ repeated_goes_on (suc n) lo var a h vars r =
     let turn : Run = a (slice_set vars var (pos lo)) (worked 1 r) in
     onward_then r turn _ (onward_then r (worked 1 r) turn (onward_worked 1 r) (h (slice_set vars var (pos lo)) (worked 1 r))) (repeated_goes_on n (lo + 1) var a h vars turn)
 
-pub looped_goes_on : (range : ℕ × ℕ) (var : ℕ) (a : Action) → GoesOn a → GoesOn (looped range var a)
-looped_goes_on range var a h vars r = onward_then r (worked 1 r) _ (onward_worked 1 r) (repeated_goes_on (range.1 - range.0) range.0 var a h vars (worked 1 r))
-
 -- ---- statements
 
-declare_goes_on : (w : Setting) (tensor : ℕ) (r : Run) → Onward r (declare w tensor r)
+pub declare_goes_on : (w : Setting) (tensor : ℕ) (r : Run) → Onward r (declare w tensor r)
 declare_goes_on w tensor r = either_goes_on (is_made w tensor) r _ (unalive r) (onward_then r (with_stage tensor _ r) _ (onward_stage tensor _ r) (onward_worked _ (with_stage tensor _ r))) (onward_unalive r)
 
-freeze_goes_on : (tensor : ℕ) (x : Stage) (r : Run) → Onward r (freeze_at tensor x r)
+pub freeze_goes_on : (tensor : ℕ) (x : Stage) (r : Run) → Onward r (freeze_at tensor x r)
 freeze_goes_on tensor Absent r = onward_unalive r
 freeze_goes_on tensor (Built b) r = onward_then r (with_stage tensor _ r) _ (onward_stage tensor _ r) (onward_worked _ (with_stage tensor _ r))
 freeze_goes_on tensor (Frozen format f) r = onward_unalive r
 
-thaw_goes_on : (tensor : ℕ) (x : Stage) (r : Run) → Onward r (thaw_at tensor x r)
+pub thaw_goes_on : (tensor : ℕ) (x : Stage) (r : Run) → Onward r (thaw_at tensor x r)
 thaw_goes_on tensor Absent r = onward_unalive r
 thaw_goes_on tensor (Built b) r = onward_unalive r
 thaw_goes_on tensor (Frozen format f) r = onward_then r (with_stage tensor _ r) _ (onward_stage tensor _ r) (onward_worked _ (with_stage tensor _ r))
@@ -119,27 +110,33 @@ pub small_goes_on : (b : Bool) (r : Run) → Onward r (asked_for_small b r)
 small_goes_on b r = either_goes_on b r r (unsmall r) (onward_still r) (onward_unsmall r)
 
 module _ (w : Setting) where
-  in_turn_goes_on : (body : List Stmt) → AllOf (λ x. GoesOn (stage_of w x)) body → GoesOn (stage_all w body)
-  in_turn_goes_on [] all vars r = onward_still r
-  in_turn_goes_on (x ∷ body) all vars r = onward_then r (stage_of w x vars r) _ (all.0 vars r) (in_turn_goes_on body all.1 vars (stage_of w x vars r))
+  abbrev pub Goes : (Run → Run) → Type 0
+  Goes f = (r : Run) → Onward r (f r)
 
-  cases : Cases (λ x. GoesOn (stage_of w x))
-  cases = record {
-    block = λ body line last all vars r. subst (Onward r) (sym (stage_block w vars r body line last)) (braced_goes_on (stage_all w body) (in_turn_goes_on body all) vars r);
-    loop = λ var range par body line last all vars r. subst (Onward r) (sym (stage_loop w vars r var range par body line last)) (looped_goes_on (range_of w var) var (braced (stage_all w body)) (braced_goes_on (stage_all w body) (in_turn_goes_on body all)) vars r);
-    cond = λ test body line last all vars r. subst (Onward r) (sym (stage_cond w vars r test body line last))
-        (onward_then r (worked 1 r) _ (onward_worked 1 r) (value_goes_on w test vars (λ v x. if int_eq v (pos 0) then x else braced (stage_all w body) vars x) (λ v x. either_goes_on (int_eq v (pos 0)) x x _ (onward_still x) (braced_goes_on (stage_all w body) (in_turn_goes_on body all) vars x)) (worked 1 r)));
-    bind = λ var value body line last all vars r. subst (Onward r) (sym (stage_bind w vars r var value body line last))
-        (onward_then r (worked 1 r) _ (onward_worked 1 r) (value_goes_on w value vars (λ v x. braced (stage_all w body) (slice_set vars var v) x) (λ v x. braced_goes_on (stage_all w body) (in_turn_goes_on body all) (slice_set vars var v) x) (worked 1 r)));
-    declare = λ tensor value line vars r. subst (Onward r) (sym (stage_declare w vars r tensor value line)) (declare_goes_on w tensor r);
-    freeze = λ tensor line vars r. subst (Onward r) (sym (stage_freeze w vars r tensor line)) (freeze_goes_on tensor (stage_at r.stages tensor) r);
-    thaw = λ tensor line vars r. subst (Onward r) (sym (stage_thaw w vars r tensor line)) (either_goes_on (is_made w tensor) r _ (unalive r) (thaw_goes_on tensor (stage_at r.stages tensor) r) (onward_unalive r));
-    update = λ tensor at by value line vars r. subst (Onward r) (sym (stage_update w vars r tensor at by value line))
-        (value_goes_on w value vars (λ v x. update w tensor (map (place vars) at) by v (asked_for_small (are_small vars at) x)) (λ v x. onward_then x (asked_for_small (are_small vars at) x) _ (small_goes_on (are_small vars at) x) (update_goes_on w tensor (map (place vars) at) by v (asked_for_small (are_small vars at) x))) r);
+  pub value_goes_on : (e : Expr) (vars : Numbers) (after : ℤ → Run → Run) → ((v : ℤ) → Goes (after v)) → Goes (with_value w e vars after)
+  value_goes_on e vars after h r =
+      let ready : Run = asked_for_small (has_small_indices e vars) (asked_to_read (can_read e (tensors_of w r)) r) in
+      onward_then r ready (with_value w e vars after r) (asked_goes_on w e vars r) (h (value_of e vars (tensors_of w r)) ready)
+
+  pub leaf_goes_on : (l : Leaf) (vars : Numbers) → Goes (leaf w l vars)
+  leaf_goes_on (Declare tensor) vars r = declare_goes_on w tensor r
+  leaf_goes_on (Freeze tensor) vars r = freeze_goes_on tensor (stage_at r.stages tensor) r
+  leaf_goes_on (Thaw tensor) vars r = either_goes_on (is_made w tensor) r _ (unalive r) (thaw_goes_on tensor (stage_at r.stages tensor) r) (onward_unalive r)
+  leaf_goes_on (Update tensor at by value) vars r =
+      let small : Run → Run = asked_for_small (are_small vars at) in
+      value_goes_on value vars (λ v x. update w tensor (map (place vars) at) by v (small x)) (λ v x. onward_then x (small x) _ (small_goes_on (are_small vars at) x) (update_goes_on w tensor (map (place vars) at) by v (small x))) r
+
+  pub parts_go_on : AreAll (staging w) none Goes
+  parts_go_on = record {
+    range = λ var. refl;
+    still = onward_still;
+    joined = λ f f' g g' h h' r. onward_then r (f r) (f' (f r)) (h r) (h' (f r));
+    value = λ e vars f g h r. onward_then r (worked 1 r) _ (onward_worked 1 r) (value_goes_on e vars f h (worked 1 r));
+    entry = λ var vars. onward_worked 1;
+    turn = λ var vars n f g h r. onward_then r (worked 1 r) (f (worked 1 r)) (onward_worked 1 r) (h (worked 1 r));
+    brace = λ f g h r. onward_then r (f r) _ (h r) (onward_closed r.stages (f r));
+    leaf = λ l vars _. leaf_goes_on l vars;
   }
 
-  pub stage_goes_on : (x : Stmt) → GoesOn (stage_of w x)
-  stage_goes_on = by_kind (λ x. GoesOn (stage_of w x)) cases
-
   pub all_go_on : (body : List Stmt) → GoesOn (stage_all w body)
-  all_go_on body = in_turn_goes_on body (all_by_kind (λ x. GoesOn (stage_of w x)) cases body)
+  all_go_on = act_all_is (staging w) Goes parts_go_on

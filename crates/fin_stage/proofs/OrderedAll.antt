@@ -27,10 +27,11 @@ use Rattle.fin_stage.specs.Stages.{stage_at}
 use Rattle.fin_stage.specs.Staged.{Run, worked, braced, repeated, looped, stage_of, stage_all}
 use Rattle.fin_stage.proofs.Alive.{Living, left, right, neither, worked_lives}
 use Rattle.fin_stage.proofs.AliveAll.{statement_lives, body_closes}
-use Rattle.fin_stage.proofs.Fits.{stage_fits, stages_fit, braced_fits}
+use Rattle.fin_stage.proofs.Fits.{stage_fits, braced_fits}
 use Rattle.fin_stage.proofs.Small.{counts_split}
 use Rattle.fin_stage.proofs.Lexical.{Strict, Weak, strict_inside, strict_is_weak, weak_fewer, weak_prefix}
-use Rattle.fin_stage.proofs.Touching.{touches, any_touches, declares, any_declares, declares_block, declares_loop, declares_cond, declares_bind, declares_declare, declares_freeze, declares_thaw, declares_update, same_tensor, last_in, last_closed, untouched}
+use Rattle.fin_stage.proofs.Touching.{is_declaration_of, touches, any_touches, declares, any_declares, same_tensor, last_in, last_closed, untouched}
+use Rattle.fin_ast.proofs.Leaves.{leaf_block, leaf_loop, leaf_cond, leaf_bind, leaf_declare, leaf_freeze, leaf_thaw, leaf_update}
 use Rattle.fin_stage.proofs.Declaring.{body_declares_nothing}
 use Rattle.fin_stage.proofs.Tracking.{depth, long_end, Stays, Along, tracked, body_tracked, body_goes_along, loop_goes}
 use Rattle.fin_stage.proofs.InOrder.{values, long_values, among_from, InOrder, no_update}
@@ -66,14 +67,14 @@ module _ (hs : List Header) (w : Setting) (given_is : (t : ℕ) → is_some (mad
 
   fresh_cases : Cases Fresh
   fresh_cases = record {
-    block = λ body line last all. fresh_by (s.Block body line last) _ (λ t. any_declares t body) (of_block Passage (stmt_passage hs) body line last) (λ t. declares_block t body line last) (λ begin now t e u. body_fresh body last now t e u);
-    loop = λ var range par body line last all. fresh_by (s.Loop var range par body line last) _ (λ t. any_declares t body) (of_loop Passage (stmt_passage hs) var range par body line last) (λ t. declares_loop t var range par body line last) (λ begin now t e u. body_fresh body last now t e u);
-    cond = λ test body line last all. fresh_by (s.Cond test body line last) _ (λ t. any_declares t body) (of_cond Passage (stmt_passage hs) test body line last) (λ t. declares_cond t test body line last) (λ begin now t e u. body_fresh body last now t (second_none (breach_of_expr now test) _ e) u);
-    bind = λ var value body line last all. fresh_by (s.Bind var value body line last) _ (λ t. any_declares t body) (of_bind Passage (stmt_passage hs) var value body line last) (λ t. declares_bind t var value body line last) (λ begin now t e u. body_fresh body last now t (second_none (breach_of_expr now value) _ e) u);
-    declare = λ tensor value line. fresh_by (s.Declare tensor value line) _ (λ t. nat_eq tensor t) (of_declare Passage (stmt_passage hs) tensor value line) (λ t. declares_declare t tensor value line) (λ begin now t e u. declare_fresh tensor line begin now t e u);
-    freeze = λ tensor line. fresh_by (s.Freeze tensor line) _ (λ t. false) (of_freeze Passage (stmt_passage hs) tensor line) (λ t. declares_freeze t tensor line) (λ begin now t e u. refl);
-    thaw = λ tensor line. fresh_by (s.Thaw tensor line) _ (λ t. false) (of_thaw Passage (stmt_passage hs) tensor line) (λ t. declares_thaw t tensor line) (λ begin now t e u. refl);
-    update = λ tensor at by value line. fresh_by (s.Update tensor at by value line) _ (λ t. false) (of_update Passage (stmt_passage hs) tensor at by value line) (λ t. declares_update t tensor at by value line) (λ begin now t e u. refl);
+    block = λ body line last all. fresh_by (s.Block body line last) _ (λ t. any_declares t body) (of_block Passage (stmt_passage hs) body line last) (λ t. leaf_block (is_declaration_of t) body line last) (λ begin now t e u. body_fresh body last now t e u);
+    loop = λ var range par body line last all. fresh_by (s.Loop var range par body line last) _ (λ t. any_declares t body) (of_loop Passage (stmt_passage hs) var range par body line last) (λ t. leaf_loop (is_declaration_of t) var range par body line last) (λ begin now t e u. body_fresh body last now t e u);
+    cond = λ test body line last all. fresh_by (s.Cond test body line last) _ (λ t. any_declares t body) (of_cond Passage (stmt_passage hs) test body line last) (λ t. leaf_cond (is_declaration_of t) test body line last) (λ begin now t e u. body_fresh body last now t (second_none (breach_of_expr now test) _ e) u);
+    bind = λ var value body line last all. fresh_by (s.Bind var value body line last) _ (λ t. any_declares t body) (of_bind Passage (stmt_passage hs) var value body line last) (λ t. leaf_bind (is_declaration_of t) var value body line last) (λ begin now t e u. body_fresh body last now t (second_none (breach_of_expr now value) _ e) u);
+    declare = λ tensor value line. fresh_by (s.Declare tensor value line) _ (λ t. nat_eq tensor t) (of_declare Passage (stmt_passage hs) tensor value line) (λ t. leaf_declare (is_declaration_of t) tensor value line) (λ begin now t e u. declare_fresh tensor line begin now t e u);
+    freeze = λ tensor line. fresh_by (s.Freeze tensor line) _ (λ t. false) (of_freeze Passage (stmt_passage hs) tensor line) (λ t. leaf_freeze (is_declaration_of t) tensor line) (λ begin now t e u. refl);
+    thaw = λ tensor line. fresh_by (s.Thaw tensor line) _ (λ t. false) (of_thaw Passage (stmt_passage hs) tensor line) (λ t. leaf_thaw (is_declaration_of t) tensor line) (λ begin now t e u. refl);
+    update = λ tensor at by value line. fresh_by (s.Update tensor at by value line) _ (λ t. false) (of_update Passage (stmt_passage hs) tensor at by value line) (λ t. leaf_update (is_declaration_of t) tensor at by value line) (λ begin now t e u. refl);
   }
 
   fresh : (x : Stmt) → Fresh x
@@ -236,7 +237,7 @@ module _ (hs : List Header) (w : Setting) (given_is : (t : ℕ) → is_some (mad
           below = below;
           entered = at.entered;
           alive = alive2;
-          fits = braced_fits w (stage_all w body) (stages_fit w body) (slice_set vars n (pos k)) (worked 1 r) at.fits;
+          fits = braced_fits w body (slice_set vars n (pos k)) (worked 1 r) at.fits;
           ordered = done.ordered;
         } in
         (at2, λ t h. end_by alive2 t (last_at r2 t) refl (done.order t h)) where

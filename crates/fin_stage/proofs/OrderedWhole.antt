@@ -31,12 +31,13 @@ use Rattle.fin_life.specs.Tracks as track
 use Rattle.fin_life.specs.Trails.{Trail, stmt_trail, trail_of, trails_of, breach_along, update_breach}
 use Rattle.fin_life.specs.Trails as trail
 use Rattle.fin_stage.specs.Stages.{Stage, Absent, Built, Frozen, stage_at}
-use Rattle.fin_stage.specs.Staged.{Run, worked, unalive, with_value, asked_to_read, asked_for_small, has_small_indices, can_read, tensors_of, are_small, braced, looped, is_made, declare, freeze, freeze_at, thaw, thaw_at, update_at, update, stage_of, stage_all}
+use Rattle.fin_stage.specs.Staged.{Run, worked, unalive, with_value, asked_to_read, asked_for_small, has_small_indices, can_read, tensors_of, are_small, braced, looped, is_made, declare, freeze, freeze_at, thaw, thaw_at, update_at, update, staging, stage_of, stage_all}
 use Rattle.fin_stage.specs.Fitting.{StagesFit}
-use Rattle.fin_stage.proofs.Equations.{stage_block, stage_loop, stage_cond, stage_bind, stage_declare, stage_freeze, stage_thaw, stage_update}
+use Rattle.fin_ast.proofs.Acting.{act_block, act_loop, act_cond, act_bind, act_declare, act_freeze, act_thaw, act_update}
 use Rattle.fin_stage.proofs.Alive.{left, right, not_not, holds_there, ready, worked_lives, small_lives}
 use Rattle.fin_stage.proofs.Lexical.{Weak}
-use Rattle.fin_stage.proofs.Touching.{touches, any_touches, touches_block, touches_loop, touches_cond, touches_bind, touches_declare, touches_freeze, touches_thaw, touches_update, same_tensor, last_in}
+use Rattle.fin_stage.proofs.Touching.{is_update_of, touches, any_touches, same_tensor, last_in}
+use Rattle.fin_ast.proofs.Leaves.{leaf_block, leaf_loop, leaf_cond, leaf_bind, leaf_declare, leaf_freeze, leaf_thaw, leaf_update}
 use Rattle.fin_stage.proofs.Declaring.{body_declares_nothing}
 use Rattle.fin_stage.proofs.Tracking.{depth, body_tracked, order_kept, deep_enough}
 use Rattle.fin_stage.proofs.InOrder.{values, values_dropped, InOrder}
@@ -185,16 +186,16 @@ module _ (hs : List Header) (w : Setting) (given_is : (t : ℕ) → is_some (mad
   cases : Cases OrdersIt
   cases = record {
     block = λ body line last all. by_equations (s.Block body line last) (stmt_passage hs (Stmt-F.Block (passages_of hs body) line last)) (stmt_trail hs (Stmt-F.Block (trails_of hs body) line last)) (bindings_of_all body) (stmt_step (Stmt-F.Block (map is_named body) line last)) (λ t. any_touches t body) (λ vars r. braced (stage_all w body) vars r)
-        (of_block Passage (stmt_passage hs) body line last) (of_block Trail (stmt_trail hs) body line last) (of_block (List ℕ) bindings_step body line last) (of_block (Scope → Bool) stmt_step body line last) (λ t. touches_block t body line last) (λ vars r. stage_block w vars r body line last)
+        (of_block Passage (stmt_passage hs) body line last) (of_block Trail (stmt_trail hs) body line last) (of_block (List ℕ) bindings_step body line last) (of_block (Scope → Bool) stmt_step body line last) (λ t. leaf_block (is_update_of t) body line last) (λ vars r. act_block (staging w) vars r body line last)
         (λ sc begin now loops tracks n vars r eh en el et ec room at o. braced_orders hs w given_is headers_is body all sc now last loops tracks n vars r eh en el et ec room at o);
     loop = λ var range par body line last all. by_equations (s.Loop var range par body line last) (stmt_passage hs (Stmt-F.Loop var range par (passages_of hs body) line last)) (stmt_trail hs (Stmt-F.Loop var range par (trails_of hs body) line last)) (var ∷ bindings_of_all body) (stmt_step (Stmt-F.Loop var range par (map is_named body) line last)) (λ t. any_touches t body) (λ vars r. looped (range_of w var) var (braced (stage_all w body)) vars r)
-        (of_loop Passage (stmt_passage hs) var range par body line last) (of_loop Trail (stmt_trail hs) var range par body line last) (of_loop (List ℕ) bindings_step var range par body line last) (of_loop (Scope → Bool) stmt_step var range par body line last) (λ t. touches_loop t var range par body line last) (λ vars r. stage_loop w vars r var range par body line last)
+        (of_loop Passage (stmt_passage hs) var range par body line last) (of_loop Trail (stmt_trail hs) var range par body line last) (of_loop (List ℕ) bindings_step var range par body line last) (of_loop (Scope → Bool) stmt_step var range par body line last) (λ t. leaf_loop (is_update_of t) var range par body line last) (λ vars r. act_loop (staging w) vars r var range par body line last)
         (λ sc begin now loops tracks n vars r eh en el et ec room at o.
         let is : n ≡ var = sym (equal var n (left (var == n) (counts_from (n + 1) (bindings_of_all body)) ec)) in
         subst (λ (k : ℕ). are_named body (within_loop sc k) ≡ true → breach_along (trails_of hs body) (loops ++ k ∷ []) tracks ≡ None → Then now loops (trail.after_all (trails_of hs body) (loops ++ k ∷ []) tracks) (n + suc (length (bindings_of_all body))) vars (λ t. any_touches t body) (looped (range_of w k) k (braced (stage_all w body)) vars r)) is
         (λ en' et'. loop_orders hs w given_is headers_is body all sc now last line loops tracks n vars eh en' el et' (right (var == n) (counts_from (n + 1) (bindings_of_all body)) ec) room at.below (range_of w n) r at o) en et);
     cond = λ test body line last all. by_equations (s.Cond test body line last) (stmt_passage hs (Stmt-F.Cond test (passages_of hs body) line last)) (stmt_trail hs (Stmt-F.Cond test (trails_of hs body) line last)) (bindings_of_all body) (stmt_step (Stmt-F.Cond test (map is_named body) line last)) (λ t. any_touches t body) (λ vars r. with_value w test vars (λ v x. if int_eq v (pos 0) then x else braced (stage_all w body) vars x) (worked 1 r))
-        (of_cond Passage (stmt_passage hs) test body line last) (of_cond Trail (stmt_trail hs) test body line last) (of_cond (List ℕ) bindings_step test body line last) (of_cond (Scope → Bool) stmt_step test body line last) (λ t. touches_cond t test body line last) (λ vars r. stage_cond w vars r test body line last)
+        (of_cond Passage (stmt_passage hs) test body line last) (of_cond Trail (stmt_trail hs) test body line last) (of_cond (List ℕ) bindings_step test body line last) (of_cond (Scope → Bool) stmt_step test body line last) (λ t. leaf_cond (is_update_of t) test body line last) (λ vars r. act_cond (staging w) vars r test body line last)
         (λ sc begin now loops tracks n vars r eh en el et ec room at o.
         let x : Run = asked_for_small (has_small_indices test vars) (asked_to_read (can_read test (tensors_of w (worked 1 r))) (worked 1 r)) in
         let ax : At now loops tracks n x = ready_at now loops tracks n test vars (worked 1 r) (first_none (breach_of_expr now test) _ el) (worked_at now loops tracks n r at) in
@@ -203,7 +204,7 @@ module _ (hs : List Header) (w : Setting) (given_is : (t : ℕ) → is_some (mad
         either (int_eq (value_of test vars (tensors_of w (worked 1 r))) (pos 0)) now loops (trail.after_all (trails_of hs body) loops tracks) (n + length (bindings_of_all body)) vars (λ t. any_touches t body) x (braced (stage_all w body) vars x)
         (unrun body last now loops tracks n (n + length (bindings_of_all body)) vars x (omega arith) eb ax ox) (braced_orders hs w given_is headers_is body all sc now last loops tracks n vars x eh (right (is_named_expr test sc) (are_named body sc) en) eb et ec room ax ox));
     bind = λ var value body line last all. by_equations (s.Bind var value body line last) (stmt_passage hs (Stmt-F.Bind var value (passages_of hs body) line last)) (stmt_trail hs (Stmt-F.Bind var value (trails_of hs body) line last)) (var ∷ bindings_of_all body) (stmt_step (Stmt-F.Bind var value (map is_named body) line last)) (λ t. any_touches t body) (λ vars r. with_value w value vars (λ v x. braced (stage_all w body) (slice_set vars var v) x) (worked 1 r))
-        (of_bind Passage (stmt_passage hs) var value body line last) (of_bind Trail (stmt_trail hs) var value body line last) (of_bind (List ℕ) bindings_step var value body line last) (of_bind (Scope → Bool) stmt_step var value body line last) (λ t. touches_bind t var value body line last) (λ vars r. stage_bind w vars r var value body line last)
+        (of_bind Passage (stmt_passage hs) var value body line last) (of_bind Trail (stmt_trail hs) var value body line last) (of_bind (List ℕ) bindings_step var value body line last) (of_bind (Scope → Bool) stmt_step var value body line last) (λ t. leaf_bind (is_update_of t) var value body line last) (λ vars r. act_bind (staging w) vars r var value body line last)
         (λ sc begin now loops tracks n vars r eh en el et ec room at o.
         let is : var ≡ n = equal var n (left (var == n) (counts_from (n + 1) (bindings_of_all body)) ec) in
         let x : Run = asked_for_small (has_small_indices value vars) (asked_to_read (can_read value (tensors_of w (worked 1 r))) (worked 1 r)) in
@@ -226,16 +227,16 @@ module _ (hs : List Header) (w : Setting) (given_is : (t : ℕ) → is_some (mad
           entered = done.entered;
         });
     declare = λ tensor value line. by_equations (s.Declare tensor value line) (stmt_passage hs (Stmt-F.Declare tensor value line)) (stmt_trail hs (Stmt-F.Declare tensor value line)) [] (stmt_step (Stmt-F.Declare tensor value line)) (λ t. false) (λ vars r. declare w tensor r)
-        (of_declare Passage (stmt_passage hs) tensor value line) (of_declare Trail (stmt_trail hs) tensor value line) (of_declare (List ℕ) bindings_step tensor value line) (of_declare (Scope → Bool) stmt_step tensor value line) (λ t. touches_declare t tensor value line) (λ vars r. stage_declare w vars r tensor value line)
+        (of_declare Passage (stmt_passage hs) tensor value line) (of_declare Trail (stmt_trail hs) tensor value line) (of_declare (List ℕ) bindings_step tensor value line) (of_declare (Scope → Bool) stmt_step tensor value line) (λ t. leaf_declare (is_update_of t) tensor value line) (λ vars r. act_declare (staging w) vars r tensor value line)
         (λ sc begin now loops tracks n vars r eh en el et ec room at o. record { ordered = same_flag (is_made w tensor) _ (unalive r) at.ordered at.ordered; order = λ t h. absurd (let c : ◌≡◌ {A = Bool} false true = h in cc); entered = declared_entered now tensor loops tracks n r at });
     freeze = λ tensor line. by_equations (s.Freeze tensor line) (stmt_passage hs (Stmt-F.Freeze tensor line)) (stmt_trail hs (Stmt-F.Freeze tensor line)) [] (stmt_step (Stmt-F.Freeze tensor line)) (λ t. false) (λ vars r. freeze tensor r)
-        (of_freeze Passage (stmt_passage hs) tensor line) (of_freeze Trail (stmt_trail hs) tensor line) (of_freeze (List ℕ) bindings_step tensor line) (of_freeze (Scope → Bool) stmt_step tensor line) (λ t. touches_freeze t tensor line) (λ vars r. stage_freeze w vars r tensor line)
+        (of_freeze Passage (stmt_passage hs) tensor line) (of_freeze Trail (stmt_trail hs) tensor line) (of_freeze (List ℕ) bindings_step tensor line) (of_freeze (Scope → Bool) stmt_step tensor line) (λ t. leaf_freeze (is_update_of t) tensor line) (λ vars r. act_freeze (staging w) vars r tensor line)
         (λ sc begin now loops tracks n vars r eh en el et ec room at o. record { ordered = freeze_flag tensor (stage_at r.stages tensor) r at.ordered; order = λ t h. absurd (let c : ◌≡◌ {A = Bool} false true = h in cc); entered = led_entered now tensor Read loops tracks n r (update_is_declared (now tensor) (not_not (is_update (now tensor)) (unbroken _ Rule.L4 line el))) at });
     thaw = λ tensor line. by_equations (s.Thaw tensor line) (stmt_passage hs (Stmt-F.Thaw tensor line)) (stmt_trail hs (Stmt-F.Thaw tensor line)) [] (stmt_step (Stmt-F.Thaw tensor line)) (λ t. false) (λ vars r. thaw w tensor r)
-        (of_thaw Passage (stmt_passage hs) tensor line) (of_thaw Trail (stmt_trail hs) tensor line) (of_thaw (List ℕ) bindings_step tensor line) (of_thaw (Scope → Bool) stmt_step tensor line) (λ t. touches_thaw t tensor line) (λ vars r. stage_thaw w vars r tensor line)
+        (of_thaw Passage (stmt_passage hs) tensor line) (of_thaw Trail (stmt_trail hs) tensor line) (of_thaw (List ℕ) bindings_step tensor line) (of_thaw (Scope → Bool) stmt_step tensor line) (λ t. leaf_thaw (is_update_of t) tensor line) (λ vars r. act_thaw (staging w) vars r tensor line)
         (λ sc begin now loops tracks n vars r eh en el et ec room at o. record { ordered = same_flag (is_made w tensor) (thaw_at tensor (stage_at r.stages tensor) r) (unalive r) (thaw_flag tensor (stage_at r.stages tensor) r at.ordered) at.ordered; order = λ t h. absurd (let c : ◌≡◌ {A = Bool} false true = h in cc); entered = led_entered now tensor Update loops tracks n r (read_is_declared (now tensor) (not_not (is_read (now tensor)) (second_false (is_input_at hs tensor) (not (is_read (now tensor))) (unbroken _ Rule.L5 line el)))) at });
     update = λ tensor at' by value line. by_equations (s.Update tensor at' by value line) (stmt_passage hs (Stmt-F.Update tensor at' by value line)) (stmt_trail hs (Stmt-F.Update tensor at' by value line)) [] (stmt_step (Stmt-F.Update tensor at' by value line)) (λ t. nat_eq tensor t) (λ vars r. with_value w value vars (λ v x. update w tensor (map (place vars) at') by v (asked_for_small (are_small vars at') x)) r)
-        (of_update Passage (stmt_passage hs) tensor at' by value line) (of_update Trail (stmt_trail hs) tensor at' by value line) (of_update (List ℕ) bindings_step tensor at' by value line) (of_update (Scope → Bool) stmt_step tensor at' by value line) (λ t. touches_update t tensor at' by value line) (λ vars r. stage_update w vars r tensor at' by value line)
+        (of_update Passage (stmt_passage hs) tensor at' by value line) (of_update Trail (stmt_trail hs) tensor at' by value line) (of_update (List ℕ) bindings_step tensor at' by value line) (of_update (Scope → Bool) stmt_step tensor at' by value line) (λ t. leaf_update (is_update_of t) tensor at' by value line) (λ vars r. act_update (staging w) vars r tensor at' by value line)
         (λ sc begin now loops tracks n vars r eh en el et ec room at o.
         let x : Run = asked_for_small (has_small_indices value vars) (asked_to_read (can_read value (tensors_of w r)) r) in
         let y : Run = asked_for_small (are_small vars at') x in

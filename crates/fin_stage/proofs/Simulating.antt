@@ -1,19 +1,17 @@
 -- Where each statement was asked for what it can do, a run by stages makes what dense evaluation makes.
-use Rattle.std.proofs.Common.{◌≡◌, ◌+◌, ℕ, zero, suc, ℤ, pos, Bool, true, false, List, [], ◌∷◌, map, Option, Some, None, if◌then◌else◌, refl, sym, ap, ◌∙◌, subst}
+use Rattle.std.proofs.Common.{◌≡◌, ℕ, zero, suc, ℤ, Bool, true, false, List, [], ◌∷◌, map, Option, Some, None, if◌then◌else◌, refl, sym, ap, ◌∙◌, subst}
 use Rattle.std.specs.Prelude.{slice_set, is_some}
 use Rattle.std.specs.Option.{option_or}
 use Rattle.fin_base.specs.Words.{operate, negated}
 use Rattle.fin_tensor.specs.TensorFunction.{TensorFunction}
 use Rattle.fin_ast.specs.declared.tree.Expr.{Expr, ind-Expr, map-Expr, fold-roll-Expr}
 use Rattle.fin_ast.specs.declared.tree.Expr.TheOpen.{Expr-F}
-use Rattle.fin_ast.specs.declared.tree.Stmt.{Stmt}
 use Rattle.fin_ast.specs.Value.{Numbers, Tensors, Reading, place, read, value_step, value_of}
 use Rattle.fin_ast.specs.Dense as dense
-use Rattle.fin_ast.specs.Dense.{Setting, State, Made, made_at, range_of, tensors_in, run_of, run_all}
+use Rattle.fin_ast.specs.Dense.{Setting, State, Made, made_at, tensors_in}
 use Rattle.fin_stage.specs.Stages.{Stage, Absent, Built, Frozen, stage_at, function_in, frozen_in, is_declared, kept}
-use Rattle.fin_stage.specs.Staged.{Run, Action, worked, with_value, tensors_of, reads_step, can_read, has_small_indices, asked_to_read, asked_for_small, braced, repeated, stage_of, stage_all}
-use Rattle.fin_ast.proofs.Induction.{AllOf}
-use Rattle.fin_stage.proofs.Onward.{Onward, GoesOn, all_go_on, repeated_goes_on}
+use Rattle.fin_stage.specs.Staged.{Run, with_value, tensors_of, reads_step, can_read, has_small_indices, asked_to_read, asked_for_small, close}
+use Rattle.fin_stage.proofs.Onward.{Onward, value_goes_on}
 use Rattle.fin_stage.proofs.Alive.{left, right}
 
 -- ---- lists of stages and of functions
@@ -94,8 +92,10 @@ module _ (w : Setting) where
   value_is : (e : Expr) (vars : Numbers) (r : Run) (t : State) → Same r t → can_read e (tensors_of w r) ≡ true → value_of e vars (tensors_of w r) ≡ value_of e vars (tensors_in w t)
   value_is e vars r t h c = same_value vars (tensors_of w r) (tensors_in w t) (λ k some. frozen_is (made_at w.given k) (stage_at r.stages k) some ∙ ap (option_or (made_at w.given k)) (sym (ap (λ (fs : Made). made_at fs k) h ∙ function_at r.stages k))) e c
 
-  abbrev pub Simulates : Action → dense.Action → Type 0
-  Simulates a d = (vars : Numbers) (r : Run) (t : State) → Same r t → Good (a vars r) → Same (a vars r) (d vars t)
+  -- what the one does goes on, and where it is good, the other does the same
+  pub record Simulates (f : Run → Run) (g : State → State) : Type 0 where
+    pub on : (r : Run) → Onward r (f r)
+    pub same : (r : Run) (t : State) → Same r t → Good (f r) → Same (f r) (g t)
 
   pub small_same : (b : Bool) (r : Run) → (asked_for_small b r).stages ≡ r.stages
   small_same true r = refl
@@ -110,31 +110,19 @@ module _ (w : Setting) where
   read_good false r g = absurd (let e : false ≡ true = g.alive in cc)
 
   -- the value of an expression, and the run behind it
-  pub value_simulates : (e : Expr) (vars : Numbers) (after : ℤ → Run → Run) (d : ℤ → State → State)
-      → ((v : ℤ) (r : Run) → Onward r (after v r)) → ((v : ℤ) (r : Run) (t : State) → Same r t → Good (after v r) → Same (after v r) (d v t))
-      → (r : Run) (t : State) → Same r t → Good (with_value w e vars after r) → Same (with_value w e vars after r) (d (value_of e vars (tensors_in w t)) t)
-  value_simulates e vars after d on f r t h g =
-      let v : ℤ = value_of e vars (tensors_of w r) in
-      let asked : Run = asked_to_read (can_read e (tensors_of w r)) r in
-      let ready : Run = asked_for_small (has_small_indices e vars) asked in
-      let gr : Good asked = small_good (has_small_indices e vars) asked (good_before ready (after v ready) (on v ready) g) in
-      let c : can_read e (tensors_of w r) ≡ true = read_good (can_read e (tensors_of w r)) r gr in
-      let same_stages : ready.stages ≡ r.stages = small_same (has_small_indices e vars) asked ∙ ap (λ (b : Bool). (asked_to_read b r).stages) c in
-      let sr : Same ready t = h ∙ ap functions (sym same_stages) in
-      subst (λ (x : ℤ). Same (after v ready) (d x t)) (value_is e vars r t h c) (f v ready t sr g)
+  pub value_simulates : (e : Expr) (vars : Numbers) (after : ℤ → Run → Run) (d : ℤ → State → State) → ((v : ℤ) → Simulates (after v) (d v)) → Simulates (with_value w e vars after) (λ t. d (value_of e vars (tensors_in w t)) t)
+  value_simulates e vars after d f = record {
+    on = value_goes_on w e vars after (λ v. (f v).on);
+    same = λ r t h g.
+        let v : ℤ = value_of e vars (tensors_of w r) in
+        let asked : Run = asked_to_read (can_read e (tensors_of w r)) r in
+        let ready : Run = asked_for_small (has_small_indices e vars) asked in
+        let gr : Good asked = small_good (has_small_indices e vars) asked (good_before ready (after v ready) ((f v).on ready) g) in
+        let c : can_read e (tensors_of w r) ≡ true = read_good (can_read e (tensors_of w r)) r gr in
+        let same_stages : ready.stages ≡ r.stages = small_same (has_small_indices e vars) asked ∙ ap (λ (b : Bool). (asked_to_read b r).stages) c in
+        let sr : Same ready t = h ∙ ap functions (sym same_stages) in
+        subst (λ (x : ℤ). Same (after v ready) (d x t)) (value_is e vars r t h c) ((f v).same ready t sr g);
+  }
 
-  pub braced_simulates : (a : Action) (d : dense.Action) → Simulates a d → Simulates (braced a) (dense.braced d)
-  braced_simulates a d f vars r t h g =
-      let inner : Same (a vars r) (d vars t) = f vars r t h (record { alive = g.alive; small = g.small; ordered = g.ordered }) in
-      ap (λ (fs : Made). dense.kept (map is_some fs) (d vars t).made) h ∙ ap (dense.kept (map is_some (functions r.stages))) inner ∙ kept_functions r.stages (a vars r).stages
-
-  pub repeated_simulates : (n lo var : ℕ) (a : Action) (d : dense.Action) → GoesOn a → Simulates a d → Simulates (repeated n lo var a) (dense.repeated n lo var d)
-  repeated_simulates zero lo var a d on f vars r t h g = h
-  repeated_simulates (suc n) lo var a d on f vars r t h g =
-      let turn : Run = a (slice_set vars var (pos lo)) (worked 1 r) in
-      repeated_simulates n (lo + 1) var a d on f vars turn (d (slice_set vars var (pos lo)) (dense.ticked t)) (f (slice_set vars var (pos lo)) (worked 1 r) (dense.ticked t) h (good_before turn _ (repeated_goes_on n (lo + 1) var a on vars turn) g)) g
-
-  pub in_turn_simulates : (body : List Stmt) → AllOf (λ x. Simulates (stage_of w x) (run_of w x)) body → Simulates (stage_all w body) (run_all w body)
-  in_turn_simulates [] all vars r t h g = h
-  in_turn_simulates (x ∷ body) all vars r t h g =
-      in_turn_simulates body all.1 vars (stage_of w x vars r) (run_of w x vars t) (all.0 vars r t h (good_before (stage_of w x vars r) _ (all_go_on w body vars (stage_of w x vars r)) g)) g
+  pub close_simulates : (before r : Run) (s t : State) → Same before s → Same r t → Same (close before r) (dense.close s t)
+  close_simulates before r s t hb h = ap (λ (fs : Made). dense.kept (map is_some fs) t.made) hb ∙ ap (dense.kept (map is_some (functions before.stages))) h ∙ kept_functions before.stages r.stages

@@ -27,9 +27,9 @@ use Rattle.fin_ast.specs.Dense.{Setting, range_of, setting_of, unbound}
 use Rattle.fin_ast.proofs.Nodes.{of_block, of_loop, of_cond, of_bind, of_declare, of_freeze, of_thaw, of_update}
 use Rattle.fin_ast.proofs.Fitting.{found_fit}
 use Rattle.fin_stage.specs.Stages.{Stage, Absent, Built, Frozen, stage_at}
-use Rattle.fin_stage.specs.Staged.{Run, worked, with_stage, unalive, unordered, with_value, asked_to_read, asked_for_small, can_read, has_small_indices, tensors_of, is_small, are_small, braced, repeated, looped, is_made, declare, freeze, freeze_at, thaw, thaw_at, put_at, update_at, update, stage_of, stage_all, before_all, staged}
+use Rattle.fin_stage.specs.Staged.{Run, worked, with_stage, unalive, unordered, with_value, asked_to_read, asked_for_small, can_read, has_small_indices, tensors_of, is_small, are_small, braced, repeated, looped, is_made, declare, freeze, freeze_at, thaw, thaw_at, put_at, update_at, update, staging, stage_of, stage_all, before_all, staged}
 use Rattle.fin_ast.proofs.Induction.{AllOf, Cases, all_by_kind}
-use Rattle.fin_stage.proofs.Equations.{stage_block, stage_loop, stage_cond, stage_bind, stage_declare, stage_freeze, stage_thaw, stage_update}
+use Rattle.fin_ast.proofs.Acting.{act_block, act_loop, act_cond, act_bind, act_declare, act_freeze, act_thaw, act_update}
 use Rattle.fin_ast.proofs.Unbroken.{second_none}
 use Rattle.fin_stage.proofs.Alive.{left, right}
 use Rattle.fin_stage.proofs.Smallness.{NoneLarge, last_none, small_number, SmallLoops, small_access, fine_expr, small_set, kept_small}
@@ -159,16 +159,16 @@ module _ (w : Setting) (ranged : AreRanged w.dims.ranges) where
   cases : Cases Smalls
   cases = record {
     block = λ body line last all. by_equations (s.Block body line last) (stmt_step (Stmt-F.Block (map is_named body) line last)) (bindings_of_all body) (places_of_all body) (λ vars r. braced (stage_all w body) vars r)
-        (of_block (Scope → Bool) stmt_step body line last) (of_block (List ℕ) bindings_step body line last) (of_block Gathering stmt_places body line last) (λ vars r. stage_block w vars r body line last)
+        (of_block (Scope → Bool) stmt_step body line last) (of_block (List ℕ) bindings_step body line last) (of_block Gathering stmt_places body line last) (λ vars r. act_block (staging w) vars r body line last)
         (λ sc n before e c f l. smalls_all body all sc n before e c f l);
     loop = λ var range par body line last all. by_equations (s.Loop var range par body line last) (stmt_step (Stmt-F.Loop var range par (map is_named body) line last)) (var ∷ bindings_of_all body) (λ before. places_of_all body (before ++ Loop var range line ∷ [])) (λ vars r. looped (range_of w var) var (braced (stage_all w body)) vars r)
-        (of_loop (Scope → Bool) stmt_step var range par body line last) (of_loop (List ℕ) bindings_step var range par body line last) (of_loop Gathering stmt_places var range par body line last) (λ vars r. stage_loop w vars r var range par body line last)
+        (of_loop (Scope → Bool) stmt_step var range par body line last) (of_loop (List ℕ) bindings_step var range par body line last) (of_loop Gathering stmt_places var range par body line last) (λ vars r. act_loop (staging w) vars r var range par body line last)
         (λ sc n before e c f l.
         let is : var ≡ n = equal var n (left (var == n) (counts_from (n + 1) (bindings_of_all body)) c) in
         let inner = smalls_all body all (within_loop sc var) (n + 1) (before ++ Loop var range line ∷ []) e (right (var == n) (counts_from (n + 1) (bindings_of_all body)) c) (subst (λ (k : ℕ). Below (k ∷ sc.loops) (n + 1)) (sym is) (below_loop sc.loops n f)) l in
         ((last_none before (Loop var range line) inner.0).0, λ vars r h g. repeated_small body sc.loops var (subst (Below sc.loops) (sym is) f) inner.1 (range_of w var).1 (range_small var) ((range_of w var).1 - (range_of w var).0) (range_of w var).0 (room (range_of w var).0 (range_of w var).1) vars (worked 1 r) h g));
     cond = λ test body line last all. by_equations (s.Cond test body line last) (stmt_step (Stmt-F.Cond test (map is_named body) line last)) (bindings_of_all body) (λ before. places_of_all body (places_of_expr test before)) (λ vars r. with_value w test vars (λ v x. if int_eq v (pos 0) then x else braced (stage_all w body) vars x) (worked 1 r))
-        (of_cond (Scope → Bool) stmt_step test body line last) (of_cond (List ℕ) bindings_step test body line last) (of_cond Gathering stmt_places test body line last) (λ vars r. stage_cond w vars r test body line last)
+        (of_cond (Scope → Bool) stmt_step test body line last) (of_cond (List ℕ) bindings_step test body line last) (of_cond Gathering stmt_places test body line last) (λ vars r. act_cond (staging w) vars r test body line last)
         (λ sc n before e c f l.
         let inner = smalls_all body all sc n (places_of_expr test before) (right (is_named_expr test sc) (are_named body sc) e) c f l in (
           before_expr sc test before (left (is_named_expr test sc) (are_named body sc) e) inner.0,
@@ -179,7 +179,7 @@ module _ (w : Setting) (ranged : AreRanged w.dims.ranges) where
               either (int_eq (value_of test vars (tensors_of w (worked 1 r))) (pos 0)) x (braced (stage_all w body) vars x) gx (inner.1 vars x h gx),
         ));
     bind = λ var value body line last all. by_equations (s.Bind var value body line last) (stmt_step (Stmt-F.Bind var value (map is_named body) line last)) (var ∷ bindings_of_all body) (λ before. places_of_all body (places_of_expr value (before ++ Let ∷ []))) (λ vars r. with_value w value vars (λ v x. braced (stage_all w body) (slice_set vars var v) x) (worked 1 r))
-        (of_bind (Scope → Bool) stmt_step var value body line last) (of_bind (List ℕ) bindings_step var value body line last) (of_bind Gathering stmt_places var value body line last) (λ vars r. stage_bind w vars r var value body line last)
+        (of_bind (Scope → Bool) stmt_step var value body line last) (of_bind (List ℕ) bindings_step var value body line last) (of_bind Gathering stmt_places var value body line last) (λ vars r. act_bind (staging w) vars r var value body line last)
         (λ sc n before e c f l.
         let is : var ≡ n = equal var n (left (var == n) (counts_from (n + 1) (bindings_of_all body)) c) in
         let inner = smalls_all body all (within_let sc var) (n + 1) (places_of_expr value (before ++ Let ∷ [])) (right (is_named_expr value sc) (are_named body (within_let sc var)) e) (right (var == n) (counts_from (n + 1) (bindings_of_all body)) c) (below_more sc.loops n (n + 1) (omega arith) f) l in (
@@ -190,16 +190,16 @@ module _ (w : Setting) (ranged : AreRanged w.dims.ranges) where
               inner.1 (slice_set vars var (value_of value vars (tensors_of w (worked 1 r)))) x (kept_small sc.loops vars var (value_of value vars (tensors_of w (worked 1 r))) (subst (Below sc.loops) (sym is) f) h) (ready_small value vars (worked 1 r) fine.1 g),
         ));
     declare = λ tensor value line. by_equations (s.Declare tensor value line) (stmt_step (Stmt-F.Declare tensor value line)) [] (λ before. before) (λ vars r. declare w tensor r)
-        (of_declare (Scope → Bool) stmt_step tensor value line) (of_declare (List ℕ) bindings_step tensor value line) (of_declare Gathering stmt_places tensor value line) (λ vars r. stage_declare w vars r tensor value line)
+        (of_declare (Scope → Bool) stmt_step tensor value line) (of_declare (List ℕ) bindings_step tensor value line) (of_declare Gathering stmt_places tensor value line) (λ vars r. act_declare (staging w) vars r tensor value line)
         (λ sc n before e c f l. (l, λ vars r h g. either (is_made w tensor) _ (unalive r) g g));
     freeze = λ tensor line. by_equations (s.Freeze tensor line) (stmt_step (Stmt-F.Freeze tensor line)) [] (λ before. before) (λ vars r. freeze tensor r)
-        (of_freeze (Scope → Bool) stmt_step tensor line) (of_freeze (List ℕ) bindings_step tensor line) (of_freeze Gathering stmt_places tensor line) (λ vars r. stage_freeze w vars r tensor line)
+        (of_freeze (Scope → Bool) stmt_step tensor line) (of_freeze (List ℕ) bindings_step tensor line) (of_freeze Gathering stmt_places tensor line) (λ vars r. act_freeze (staging w) vars r tensor line)
         (λ sc n before e c f l. (l, λ vars r h g. freeze_small tensor (stage_at r.stages tensor) r g));
     thaw = λ tensor line. by_equations (s.Thaw tensor line) (stmt_step (Stmt-F.Thaw tensor line)) [] (λ before. before) (λ vars r. thaw w tensor r)
-        (of_thaw (Scope → Bool) stmt_step tensor line) (of_thaw (List ℕ) bindings_step tensor line) (of_thaw Gathering stmt_places tensor line) (λ vars r. stage_thaw w vars r tensor line)
+        (of_thaw (Scope → Bool) stmt_step tensor line) (of_thaw (List ℕ) bindings_step tensor line) (of_thaw Gathering stmt_places tensor line) (λ vars r. act_thaw (staging w) vars r tensor line)
         (λ sc n before e c f l. (l, λ vars r h g. either (is_made w tensor) _ (unalive r) (thaw_small tensor (stage_at r.stages tensor) r g) g));
     update = λ tensor at by value line. by_equations (s.Update tensor at by value line) (stmt_step (Stmt-F.Update tensor at by value line)) [] (λ before. places_of_expr value (uses_of line (8 * tensor) at before)) (λ vars r. with_value w value vars (λ v x. update w tensor (map (place vars) at) by v (asked_for_small (are_small vars at) x)) r)
-        (of_update (Scope → Bool) stmt_step tensor at by value line) (of_update (List ℕ) bindings_step tensor at by value line) (of_update Gathering stmt_places tensor at by value line) (λ vars r. stage_update w vars r tensor at by value line)
+        (of_update (Scope → Bool) stmt_step tensor at by value line) (of_update (List ℕ) bindings_step tensor at by value line) (of_update Gathering stmt_places tensor at by value line) (λ vars r. act_update (staging w) vars r tensor at by value line)
         (λ sc n before e c f l.
         let access = left (is_access sc tensor at) (is_named_expr value sc) e in
         let named = right (is_access sc tensor at) (is_named_expr value sc) e in (

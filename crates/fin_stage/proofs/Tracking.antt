@@ -19,7 +19,8 @@ use Rattle.fin_life.specs.Trails.{Trail, stmt_trail, trail_of, trails_of, breach
 use Rattle.fin_ast.proofs.Induction.{AllOf, Cases, by_kind, all_by_kind}
 use Rattle.fin_ast.proofs.Unbroken.{first_none, second_none, unbroken}
 use Rattle.fin_stage.proofs.Alive.{left, right, neither, not_not}
-use Rattle.fin_stage.proofs.Touching.{touches, any_touches, declares, any_declares, touches_block, touches_loop, touches_cond, touches_bind, touches_declare, touches_freeze, touches_thaw, touches_update, declares_block, declares_loop, declares_cond, declares_bind, declares_declare, declares_freeze, declares_thaw, declares_update, same_tensor, itself}
+use Rattle.fin_stage.proofs.Touching.{is_declaration_of, is_update_of, touches, any_touches, declares, any_declares, same_tensor, itself}
+use Rattle.fin_ast.proofs.Leaves.{leaf_block, leaf_loop, leaf_cond, leaf_bind, leaf_declare, leaf_freeze, leaf_thaw, leaf_update}
 
 -- ---- lists
 pub drop_end : (e : ℕ) (loops : List ℕ) (v : ℕ) → e ≤ length loops → drop e (loops ++ v ∷ []) ≡ drop e loops ++ v ∷ []
@@ -111,15 +112,15 @@ module _ (hs : List Header) (t : ℕ) where
 
   tracked_cases : Cases Tracked
   tracked_cases = record {
-    block = λ body line last all. tracked_by (s.Block body line last) (any_declares t body) _ (declares_block t body line last) (of_block Trail (stmt_trail hs) body line last) (λ loops tracks e. all_tracked body all loops tracks e);
-    loop = λ var range par body line last all. tracked_by (s.Loop var range par body line last) (any_declares t body) _ (declares_loop t var range par body line last) (of_loop Trail (stmt_trail hs) var range par body line last)
+    block = λ body line last all. tracked_by (s.Block body line last) (any_declares t body) _ (leaf_block (is_declaration_of t) body line last) (of_block Trail (stmt_trail hs) body line last) (λ loops tracks e. all_tracked body all loops tracks e);
+    loop = λ var range par body line last all. tracked_by (s.Loop var range par body line last) (any_declares t body) _ (leaf_loop (is_declaration_of t) var range par body line last) (of_loop Trail (stmt_trail hs) var range par body line last)
         (λ loops tracks e. let h = all_tracked body all (loops ++ var ∷ []) tracks e in record { entered = h.entered; first = h.first });
-    cond = λ test body line last all. tracked_by (s.Cond test body line last) (any_declares t body) _ (declares_cond t test body line last) (of_cond Trail (stmt_trail hs) test body line last) (λ loops tracks e. all_tracked body all loops tracks e);
-    bind = λ var value body line last all. tracked_by (s.Bind var value body line last) (any_declares t body) _ (declares_bind t var value body line last) (of_bind Trail (stmt_trail hs) var value body line last) (λ loops tracks e. all_tracked body all loops tracks e);
-    declare = λ tensor value line. tracked_by (s.Declare tensor value line) (nat_eq tensor t) _ (declares_declare t tensor value line) (of_declare Trail (stmt_trail hs) tensor value line) (λ loops tracks e. declared_other tensor loops tracks e);
-    freeze = λ tensor line. tracked_by (s.Freeze tensor line) false _ (declares_freeze t tensor line) (of_freeze Trail (stmt_trail hs) tensor line) (λ loops tracks e. stays_still loops tracks);
-    thaw = λ tensor line. tracked_by (s.Thaw tensor line) false _ (declares_thaw t tensor line) (of_thaw Trail (stmt_trail hs) tensor line) (λ loops tracks e. stays_still loops tracks);
-    update = λ tensor at by value line. tracked_by (s.Update tensor at by value line) false _ (declares_update t tensor at by value line) (of_update Trail (stmt_trail hs) tensor at by value line) (λ loops tracks e. updated_stays tensor loops tracks);
+    cond = λ test body line last all. tracked_by (s.Cond test body line last) (any_declares t body) _ (leaf_cond (is_declaration_of t) test body line last) (of_cond Trail (stmt_trail hs) test body line last) (λ loops tracks e. all_tracked body all loops tracks e);
+    bind = λ var value body line last all. tracked_by (s.Bind var value body line last) (any_declares t body) _ (leaf_bind (is_declaration_of t) var value body line last) (of_bind Trail (stmt_trail hs) var value body line last) (λ loops tracks e. all_tracked body all loops tracks e);
+    declare = λ tensor value line. tracked_by (s.Declare tensor value line) (nat_eq tensor t) _ (leaf_declare (is_declaration_of t) tensor value line) (of_declare Trail (stmt_trail hs) tensor value line) (λ loops tracks e. declared_other tensor loops tracks e);
+    freeze = λ tensor line. tracked_by (s.Freeze tensor line) false _ (leaf_freeze (is_declaration_of t) tensor line) (of_freeze Trail (stmt_trail hs) tensor line) (λ loops tracks e. stays_still loops tracks);
+    thaw = λ tensor line. tracked_by (s.Thaw tensor line) false _ (leaf_thaw (is_declaration_of t) tensor line) (of_thaw Trail (stmt_trail hs) tensor line) (λ loops tracks e. stays_still loops tracks);
+    update = λ tensor at by value line. tracked_by (s.Update tensor at by value line) false _ (leaf_update (is_declaration_of t) tensor at by value line) (of_update Trail (stmt_trail hs) tensor at by value line) (λ loops tracks e. updated_stays tensor loops tracks);
   }
 
   pub tracked : (x : Stmt) → Tracked x
@@ -195,16 +196,16 @@ module _ (hs : List Header) (t : ℕ) where
 
   goes_cases : Cases GoesAlong
   goes_cases = record {
-    block = λ body line last all. goes_by (s.Block body line last) _ (any_declares t body) (any_touches t body) (bindings_of_all body) (of_block Trail (stmt_trail hs) body line last) (declares_block t body line last) (touches_block t body line last) (of_block (List ℕ) bindings_step body line last) (λ loops tracks nd te le e. body_goes body all loops tracks nd te le e);
-    loop = λ var range par body line last all. goes_by (s.Loop var range par body line last) _ (any_declares t body) (any_touches t body) (var ∷ bindings_of_all body) (of_loop Trail (stmt_trail hs) var range par body line last) (declares_loop t var range par body line last) (touches_loop t var range par body line last) (of_loop (List ℕ) bindings_step var range par body line last)
+    block = λ body line last all. goes_by (s.Block body line last) _ (any_declares t body) (any_touches t body) (bindings_of_all body) (of_block Trail (stmt_trail hs) body line last) (leaf_block (is_declaration_of t) body line last) (leaf_block (is_update_of t) body line last) (of_block (List ℕ) bindings_step body line last) (λ loops tracks nd te le e. body_goes body all loops tracks nd te le e);
+    loop = λ var range par body line last all. goes_by (s.Loop var range par body line last) _ (any_declares t body) (any_touches t body) (var ∷ bindings_of_all body) (of_loop Trail (stmt_trail hs) var range par body line last) (leaf_loop (is_declaration_of t) var range par body line last) (leaf_loop (is_update_of t) var range par body line last) (of_loop (List ℕ) bindings_step var range par body line last)
         (λ loops tracks nd te le e. let (f, is, along) = body_goes body all (loops ++ var ∷ []) tracks nd te (omega (arith, le, long_end loops var)) e in (f, is, loop_goes loops var (tracks.entered t) (bindings_of_all body) f le along));
-    cond = λ test body line last all. goes_by (s.Cond test body line last) _ (any_declares t body) (any_touches t body) (bindings_of_all body) (of_cond Trail (stmt_trail hs) test body line last) (declares_cond t test body line last) (touches_cond t test body line last) (of_cond (List ℕ) bindings_step test body line last) (λ loops tracks nd te le e. body_goes body all loops tracks nd te le e);
-    bind = λ var value body line last all. goes_by (s.Bind var value body line last) _ (any_declares t body) (any_touches t body) (var ∷ bindings_of_all body) (of_bind Trail (stmt_trail hs) var value body line last) (declares_bind t var value body line last) (touches_bind t var value body line last) (of_bind (List ℕ) bindings_step var value body line last)
+    cond = λ test body line last all. goes_by (s.Cond test body line last) _ (any_declares t body) (any_touches t body) (bindings_of_all body) (of_cond Trail (stmt_trail hs) test body line last) (leaf_cond (is_declaration_of t) test body line last) (leaf_cond (is_update_of t) test body line last) (of_cond (List ℕ) bindings_step test body line last) (λ loops tracks nd te le e. body_goes body all loops tracks nd te le e);
+    bind = λ var value body line last all. goes_by (s.Bind var value body line last) _ (any_declares t body) (any_touches t body) (var ∷ bindings_of_all body) (of_bind Trail (stmt_trail hs) var value body line last) (leaf_bind (is_declaration_of t) var value body line last) (leaf_bind (is_update_of t) var value body line last) (of_bind (List ℕ) bindings_step var value body line last)
         (λ loops tracks nd te le e. let (f, is, along) = body_goes body all loops tracks nd te le e in (f, is, wider loops (bindings_of_all body) (var ∷ bindings_of_all body) (tracks.entered t) f (λ v h. among_right (var ∷ []) (bindings_of_all body) v h) along));
-    declare = λ tensor value line. goes_by (s.Declare tensor value line) _ (nat_eq tensor t) false [] (of_declare Trail (stmt_trail hs) tensor value line) (declares_declare t tensor value line) (touches_declare t tensor value line) (of_declare (List ℕ) bindings_step tensor value line) (λ loops tracks nd te le e. absurd (let c : ◌≡◌ {A = Bool} false true = te in cc));
-    freeze = λ tensor line. goes_by (s.Freeze tensor line) _ false false [] (of_freeze Trail (stmt_trail hs) tensor line) (declares_freeze t tensor line) (touches_freeze t tensor line) (of_freeze (List ℕ) bindings_step tensor line) (λ loops tracks nd te le e. absurd (let c : ◌≡◌ {A = Bool} false true = te in cc));
-    thaw = λ tensor line. goes_by (s.Thaw tensor line) _ false false [] (of_thaw Trail (stmt_trail hs) tensor line) (declares_thaw t tensor line) (touches_thaw t tensor line) (of_thaw (List ℕ) bindings_step tensor line) (λ loops tracks nd te le e. absurd (let c : ◌≡◌ {A = Bool} false true = te in cc));
-    update = λ tensor at by value line. goes_by (s.Update tensor at by value line) _ false (nat_eq tensor t) [] (of_update Trail (stmt_trail hs) tensor at by value line) (declares_update t tensor at by value line) (touches_update t tensor at by value line) (of_update (List ℕ) bindings_step tensor at by value line)
+    declare = λ tensor value line. goes_by (s.Declare tensor value line) _ (nat_eq tensor t) false [] (of_declare Trail (stmt_trail hs) tensor value line) (leaf_declare (is_declaration_of t) tensor value line) (leaf_declare (is_update_of t) tensor value line) (of_declare (List ℕ) bindings_step tensor value line) (λ loops tracks nd te le e. absurd (let c : ◌≡◌ {A = Bool} false true = te in cc));
+    freeze = λ tensor line. goes_by (s.Freeze tensor line) _ false false [] (of_freeze Trail (stmt_trail hs) tensor line) (leaf_freeze (is_declaration_of t) tensor line) (leaf_freeze (is_update_of t) tensor line) (of_freeze (List ℕ) bindings_step tensor line) (λ loops tracks nd te le e. absurd (let c : ◌≡◌ {A = Bool} false true = te in cc));
+    thaw = λ tensor line. goes_by (s.Thaw tensor line) _ false false [] (of_thaw Trail (stmt_trail hs) tensor line) (leaf_thaw (is_declaration_of t) tensor line) (leaf_thaw (is_update_of t) tensor line) (of_thaw (List ℕ) bindings_step tensor line) (λ loops tracks nd te le e. absurd (let c : ◌≡◌ {A = Bool} false true = te in cc));
+    update = λ tensor at by value line. goes_by (s.Update tensor at by value line) _ false (nat_eq tensor t) [] (of_update Trail (stmt_trail hs) tensor at by value line) (leaf_update (is_declaration_of t) tensor at by value line) (leaf_update (is_update_of t) tensor at by value line) (of_update (List ℕ) bindings_step tensor at by value line)
         (λ loops tracks nd te le e. let same : tensor ≡ t = same_tensor tensor t te in
         subst (λ (k : ℕ). Goes loops [] tracks (updated k loops tracks)) (sym same) (update_goes at line loops tracks (subst (λ (k : ℕ). update_breach hs k at line loops tracks ≡ None) same e)));
   }

@@ -1,7 +1,6 @@
 -- A run of a program by the stages of its tensors. It does what dense evaluation does; it keeps besides whether each
 -- statement was asked for what it can do, and the work, coordinate by coordinate.
-use Rattle.std.specs.Prelude.{ℕ, zero, suc, ◌+◌, ◌-◌, ◌^◌, Bool, true, false, ◌&&◌, nat_le, unsigned_abs, if◌then◌else◌, ℤ, pos, List, [], ◌∷◌, map, Option, Some, None, is_some, is_none, slice_set, slice_get, unwrap_or, option_map}
-use Rattle.std.specs.Ordering.{int_eq}
+use Rattle.std.specs.Prelude.{ℕ, ◌+◌, ◌^◌, Bool, true, false, ◌&&◌, nat_le, unsigned_abs, if◌then◌else◌, ℤ, pos, List, [], map, Option, Some, None, is_some, is_none, slice_set, slice_get, unwrap_or, option_map}
 use Rattle.std.specs.List.{list_all}
 use Rattle.fin_base.specs.Words.{apply}
 use Rattle.fin_base.specs.declared.reduce.Reduce.{Reduce}
@@ -15,9 +14,10 @@ use Rattle.fin_ast.specs.declared.checked.Checked.{Checked}
 use Rattle.fin_ast.specs.declared.tree.Index.{Index}
 use Rattle.fin_ast.specs.declared.tree.Expr.{Expr, fold-Expr}
 use Rattle.fin_ast.specs.declared.tree.Expr.TheOpen.{Expr-F}
-use Rattle.fin_ast.specs.declared.tree.Stmt.{Stmt, fold-Stmt}
-use Rattle.fin_ast.specs.declared.tree.Stmt.TheOpen.{Stmt-F}
+use Rattle.fin_ast.specs.declared.tree.Stmt.{Stmt}
 use Rattle.fin_ast.specs.Value.{Numbers, Tensors, number_if, place, coordinates, value_of}
+use Rattle.fin_ast.specs.Actions as acts
+use Rattle.fin_ast.specs.Actions.{Leaf, Declare, Freeze, Thaw, Update, Turn, Parts, act, act_all}
 use Rattle.fin_ast.specs.Dense.{Setting, made_at, shape_at, range_of, setting_of, unbound}
 use Rattle.fin_stage.specs.Stages.{Stage, Absent, Built, Frozen, stage_at, kept, readable, work_of_declaration, work_of_storing}
 
@@ -37,7 +37,7 @@ abbrev pub regular : Run → Bool
 regular r = r.alive && r.small && r.ordered
 
 abbrev pub Action : Type 0
-Action = Numbers → Run → Run
+Action = acts.Action Run
 
 abbrev pub worked : ℕ → Run → Run
 worked n r = record r { work = r.work + n }
@@ -104,23 +104,25 @@ with_value w e vars after r = after (value_of e vars (tensors_of w r)) (asked_fo
 
 -- ---- statements
 
-abbrev pub in_turn : List Action → Action
-in_turn [] vars r = r
-in_turn (a ∷ rest) vars r = in_turn rest vars (a vars r)
-
 abbrev pub closed : List Stage → Run → Run
 closed before r = record r { stages = kept before r.stages }
 
+abbrev pub close : Run → Run → Run
+close before r = closed before.stages r
+
 abbrev pub braced : Action → Action
-braced body vars r = closed r.stages (body vars r)
+braced = acts.braced close
 
--- the body at n numbers from lo on; each turn is work
+-- each turn is work
+abbrev pub turn : Turn Run
+turn var vars n body r = body (worked 1 r)
+
 abbrev pub repeated : ℕ → ℕ → ℕ → Action → Action
-repeated zero lo var body vars r = r
-repeated (suc n) lo var body vars r = repeated n (lo + 1) var body vars (body (slice_set vars var (pos lo)) (worked 1 r))
+repeated = acts.repeated turn
 
+-- and so is a loop
 abbrev pub looped : ℕ × ℕ → ℕ → Action → Action
-looped range var body vars r = repeated (range.1 - range.0) range.0 var body vars (worked 1 r)
+looped range var body vars r = acts.looped turn range var body vars (worked 1 r)
 
 abbrev pub no_format : Format
 no_format = record { levels = []; wrap = Bare; fill = pos 0 }
@@ -167,22 +169,28 @@ update_at tensor (Frozen format f) at by v r = unalive r
 abbrev pub update : Setting → ℕ → List ℤ → Reduce → ℤ → Run → Run
 update w tensor at by v r = worked 1 (if is_made w tensor then update_at tensor (stage_at r.stages tensor) at by v r else unalive r)
 
--- one node, with what each inner statement does in its place
-abbrev pub stage_step : Setting → Stmt-F Action → Action
-stage_step w (Stmt-F.Block body line last) vars r = braced (in_turn body) vars r
-stage_step w (Stmt-F.Loop var range par body line last) vars r = looped (range_of w var) var (braced (in_turn body)) vars r
-stage_step w (Stmt-F.Cond test body line last) vars r = with_value w test vars (λ v r'. if int_eq v (pos 0) then r' else braced (in_turn body) vars r') (worked 1 r)
-stage_step w (Stmt-F.Bind var value body line last) vars r = with_value w value vars (λ v r'. braced (in_turn body) (slice_set vars var v) r') (worked 1 r)
-stage_step w (Stmt-F.Declare tensor value line) vars r = declare w tensor r
-stage_step w (Stmt-F.Freeze tensor line) vars r = freeze tensor r
-stage_step w (Stmt-F.Thaw tensor line) vars r = thaw w tensor r
-stage_step w (Stmt-F.Update tensor at by value line) vars r = with_value w value vars (λ v r'. update w tensor (map (place vars) at) by v (asked_for_small (are_small vars at) r')) r
+abbrev pub leaf : Setting → Leaf → Action
+leaf w (Declare tensor) vars r = declare w tensor r
+leaf w (Freeze tensor) vars r = freeze tensor r
+leaf w (Thaw tensor) vars r = thaw w tensor r
+leaf w (Update tensor at by value) vars r = with_value w value vars (λ v r'. update w tensor (map (place vars) at) by v (asked_for_small (are_small vars at) r')) r
+
+-- a test, a let and a loop are work
+abbrev pub staging : Setting → Parts Run
+staging w = record {
+  range = range_of w;
+  value = λ e vars after r. with_value w e vars after (worked 1 r);
+  entry = λ var vars r. worked 1 r;
+  turn = turn;
+  brace = close;
+  leaf = leaf w;
+}
 
 abbrev pub stage_of : Setting → Stmt → Action
-stage_of w = fold-Stmt Action (stage_step w)
+stage_of w = act (staging w)
 
 abbrev pub stage_all : Setting → List Stmt → Action
-stage_all w body = in_turn (map (stage_of w) body)
+stage_all w = act_all (staging w)
 
 -- ---- whole programs
 
