@@ -8,7 +8,8 @@ use Rattle.fin_ast.specs.declared.tree.Stmt.TheOpen.{Stmt-F}
 use Rattle.fin_ast.specs.declared.tree.Stmt.TheVariants.{Block, Loop, Cond, Bind, Declare, Freeze, Thaw, Update}
 use Rattle.fin_ast.specs.Text.{Mark, Opens, Reads, Updates, Declares, Freezes, Thaws, Text, Writing, text_of_expr, stmt_text, text_of}
 use Rattle.fin_ast.specs.Modes.{is_input_at, mode_before}
-use Rattle.fin_ast.specs.Life.{is_update, is_read, is_output}
+use Rattle.fin_ast.specs.Kinds.{is_output}
+use Rattle.fin_ast.specs.Life.{is_update, is_read}
 
 -- what a mark does with a tensor: a read, an update, or a declaration, freeze or thaw
 abbrev pub reads : ℕ → Mark → Bool

@@ -8,6 +8,11 @@ is_input Input = true
 is_input Output = false
 is_input Local = false
 
+abbrev pub is_output : Kind → Bool
+is_output Input = false
+is_output Output = true
+is_output Local = false
+
 -- a list of numbers, where there is one, has that length
 abbrev pub has_length : ℕ → Option (List ℕ) → Bool
 has_length n None = true

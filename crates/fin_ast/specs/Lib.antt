@@ -15,7 +15,10 @@ pub mod Life
 pub mod Insertion
 pub mod Order
 pub mod Value
+pub mod Spine
 pub mod Actions
 pub mod Dense
 pub mod Shaped
+pub mod OneProof
+pub mod Literals
 pub mod Accepted

@@ -4,11 +4,10 @@ use Rattle.std.specs.Option.{option_or}
 use Rattle.fin_base.specs.declared.refusal.Rule.TheVariants.{L1, L2, L3, L4, L5, L6, L7}
 use Rattle.fin_base.specs.declared.refusal.Refusal.{Refusal}
 use Rattle.fin_ast.specs.declared.header.Header.{Header}
-use Rattle.fin_ast.specs.declared.header.Kind.{Kind}
-use Rattle.fin_ast.specs.declared.header.Kind.TheVariants.{Input, Output, Local}
 use Rattle.fin_ast.specs.declared.mode.Mode.{Mode}
 use Rattle.fin_ast.specs.declared.mode.Mode.TheVariants.{Undeclared, Update, Read}
 use Rattle.fin_ast.specs.declared.program.Program.{Program}
+use Rattle.fin_ast.specs.Kinds.{is_output}
 use Rattle.fin_ast.specs.Sizes.{broken, first_from}
 use Rattle.fin_ast.specs.Text.{Mark, Opens, Closes, Reads, Updates, Declares, Freezes, Thaws, Text, text_of_all}
 use Rattle.fin_ast.specs.Modes.{is_input_at, before_body, mode_before}
@@ -33,11 +32,6 @@ abbrev pub is_changed : Mode → Mode → Bool
 is_changed Undeclared now = false
 is_changed Update now = not (is_update now)
 is_changed Read now = not (is_read now)
-
-abbrev pub is_output : Kind → Bool
-is_output Input = false
-is_output Output = true
-is_output Local = false
 
 -- L6: a body ends with another mode of a tensor that was declared at its beginning
 abbrev pub first_changed : (ℕ → Mode) → (ℕ → Mode) → ℕ → List Header → Option Refusal

@@ -1,5 +1,7 @@
 //! A program with what the checks found of it.
 ghost use Rattle.std.specs.Prelude.{◌≡◌, IfOk};
+ghost use Rattle.fin_ast.specs.OneProof.{FitHeaders-prop};
+ghost use Rattle.fin_ast.specs.Shaped.{FitHeaders};
 
 use crate::program::Program;
 use fin_base::Updated;
@@ -26,12 +28,14 @@ pub struct Ways {
     pub loops: Seq<LoopWays>,
 }
 
-/// A program that meets the checks, with its extents and ways.
+/// A program that meets the checks, with its extents and ways. Each tensor can be built: it has an extent for each
+/// level, none over 2^40, and its dense extents keep their limit; and no range reaches over 2^40.
 #[derive(Debug, Drop)]
 pub struct Checked {
     pub program: Program,
     pub dims: Dims,
     pub ways: Ways,
+    pub ghost fits: { FitHeaders program.headers dims } by { FitHeaders-prop program.headers dims },
 }
 
 impl Dims {

@@ -11,6 +11,7 @@ mod header;
 mod mode;
 mod place;
 mod program;
+mod spine;
 mod tree;
 
 pub use checked::{Checked, Dims, LoopWays, Ways};
@@ -18,4 +19,5 @@ pub use header::{Header, Kind};
 pub use mode::Mode;
 pub use place::{Place, Tie};
 pub use program::Program;
+pub use spine::{Head, Spine};
 pub use tree::{Expr, Index, Stmt};

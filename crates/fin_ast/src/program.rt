@@ -7,6 +7,7 @@ ghost use Rattle.fin_ast.specs.Headers.{names_of};
 ghost use Rattle.fin_ast.specs.Bindings.{counts_from, bindings_of_all};
 ghost use Rattle.fin_ast.specs.Scope.{are_named, outermost};
 ghost use Rattle.fin_ast.specs.Depth.{IsShallow};
+ghost use Rattle.fin_ast.specs.Literals.{are_worded};
 
 use crate::copy::copy_all;
 use crate::header::Header;
@@ -20,7 +21,7 @@ use std::alloc::{AllocError, Global};
 /// Its headers have different names. The variables are numbered in the order
 /// in which loops and lets bind them. Each number in the body stands for a header, or for a loop or let around it; an
 /// index for loops alone, and a `~` index for two different ones. An access has an index for each level, and a
-/// declaration gives the fill.
+/// declaration gives the fill. The literals of its expressions are words.
 #[derive(Debug, Drop)]
 pub struct Program {
     pub headers: Seq<Header>,
@@ -31,6 +32,7 @@ pub struct Program {
     pub ghost numbered: { IsTrue (counts_from 0 (bindings_of_all body)) },
     pub ghost named: { IsTrue (are_named body (outermost headers)) },
     pub ghost shallow: { IsShallow body },
+    pub ghost worded: { IsTrue (are_worded body) },
 }
 
 impl Program {

@@ -9,7 +9,8 @@ use Rattle.fin_canon.proofs.Canonical.{canonical_is_unique, canonical_is_valid}
 use Rattle.fin_ast.specs.Dense.{function_of}
 use Rattle.fin_ast.specs.declared.checked.Checked.{Checked}
 use Rattle.fin_ast.specs.declared.header.Header.{Header}
-use Rattle.fin_dense.specs.Plain.{AreStored, IsOver, IsPlain, is_output, outputs_from}
+use Rattle.fin_ast.specs.Kinds.{is_output}
+use Rattle.fin_dense.specs.Plain.{AreStored, IsOver, IsPlain, outputs_from}
 
 same_output : (o p : ℕ × Storage) → o.0 ≡ p.0 → o.1 ≡ p.1 → o ≡ p
 same_output o p h k = λ i. (h i, k i)

@@ -9,7 +9,8 @@ use Rattle.fin_tensor.specs.declared.storage.Storage.{Storage}
 use Rattle.fin_canon.specs.Entries.{Entry, AreEntries, named, undecorated}
 use Rattle.fin_canon.proofs.Mapped.{entries_name}
 use Rattle.fin_ast.specs.declared.header.Header.{Header}
-use Rattle.fin_dense.specs.Plain.{AreStored, is_output, outputs_from}
+use Rattle.fin_ast.specs.Kinds.{is_output}
+use Rattle.fin_dense.specs.Plain.{AreStored, outputs_from}
 use Rattle.fin_dense.specs.Fitting.{Adds, HasLarge}
 
 opened : {X : Type 0} (xs : List X) (k : ℕ) (x : X) → slice_get xs k ≡ Some x → drop k xs ≡ x ∷ drop (suc k) xs

@@ -1,6 +1,5 @@
 pub mod Plain
 pub mod Inputs
 pub mod Halts
-pub mod OneProof
 pub mod Runs
 pub mod Fitting

@@ -9,15 +9,9 @@ use Rattle.fin_tensor.specs.declared.storage.Storage.{Storage}
 use Rattle.fin_tensor.specs.declared.outputs.Outputs.{Outputs}
 use Rattle.fin_canon.specs.Entries.{undecorated}
 use Rattle.fin_ast.specs.declared.header.Header.{Header}
-use Rattle.fin_ast.specs.declared.header.Kind.{Kind}
-use Rattle.fin_ast.specs.declared.header.Kind.TheVariants.{Input, Output, Local}
+use Rattle.fin_ast.specs.Kinds.{is_output}
 use Rattle.fin_ast.specs.declared.checked.Checked.{Checked}
 use Rattle.fin_ast.specs.Dense.{evaluated, function_of}
-
-abbrev pub is_output : Kind → Bool
-is_output Input = false
-is_output Output = true
-is_output Local = false
 
 -- the outputs among headers from a number on
 abbrev pub outputs_from : ℕ → List Header → List (ℕ × Header)

@@ -7,7 +7,8 @@ ghost use Rattle.fin_tensor.specs.TensorFunction.{filled};
 ghost use Rattle.fin_canon.specs.Entries.{AreEntries, named, undecorated};
 ghost use Rattle.fin_ast.specs.Dense.{made_at};
 ghost use Rattle.fin_dense.specs.Fitting.{Adds, HasLarge, HaveHeaders, function_in};
-ghost use Rattle.fin_dense.specs.Plain.{AreStored, is_output, outputs_from};
+ghost use Rattle.fin_ast.specs.Kinds.{is_output};
+ghost use Rattle.fin_dense.specs.Plain.{AreStored, outputs_from};
 ghost use Rattle.fin_dense.specs.Runs.{setting_in};
 
 use crate::halt::Halt;

@@ -8,7 +8,8 @@ use Rattle.fin_tensor.specs.declared.storage.Storage.{Storage}
 use Rattle.fin_ast.specs.declared.header.Header.{Header}
 use Rattle.fin_ast.specs.declared.checked.Checked.{Checked}
 use Rattle.fin_ast.specs.Dense.{function_of}
-use Rattle.fin_dense.specs.Plain.{AreStored, is_output, outputs_from}
+use Rattle.fin_ast.specs.Kinds.{is_output}
+use Rattle.fin_dense.specs.Plain.{AreStored, outputs_from}
 use Rattle.fin_stage.specs.Staged.{coordinate_work}
 use Rattle.fin_run.specs.declared.state.Held.{Held}
 use Rattle.fin_run.specs.Storages.{storage_in}

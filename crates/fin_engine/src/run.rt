@@ -9,7 +9,8 @@ ghost use Rattle.fin_run.specs.States.{machine};
 ghost use Rattle.fin_run.specs.Storages.{storage_in};
 ghost use Rattle.fin_lower.specs.Plans.{plan_of};
 ghost use Rattle.fin_stage.specs.Staged.{coordinate_work};
-ghost use Rattle.fin_dense.specs.Plain.{AreStored, is_output as is_output_kind, outputs_from};
+ghost use Rattle.fin_ast.specs.Kinds.{is_output as is_output_kind};
+ghost use Rattle.fin_dense.specs.Plain.{AreStored, outputs_from};
 ghost use Rattle.fin_engine.specs.Run.{HoldsOutputs, IsFront, IsSpent, RunsOne};
 
 use crate::job::Job;

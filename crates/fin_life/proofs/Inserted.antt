@@ -9,7 +9,8 @@ use Rattle.fin_ast.specs.declared.tree.Stmt.TheOpen.{Stmt-F}
 use Rattle.fin_ast.specs.declared.tree.Stmt.TheVariants as s
 use Rattle.fin_ast.specs.Text.{Opens, Updates, Text, Writing, text_of_expr, in_a_row, stmt_text, text_of}
 use Rattle.fin_ast.specs.Modes.{mode_before, is_input_at}
-use Rattle.fin_ast.specs.Life.{is_update, is_read, is_output}
+use Rattle.fin_ast.specs.Kinds.{is_output}
+use Rattle.fin_ast.specs.Life.{is_update, is_read}
 use Rattle.fin_ast.specs.Insertion.{Draft, put, put_for, put_at_end, in_header_order, Completion, put_before, put_whole, completed, completed_body, stmt_completion, completion_of, completions_of, completed_program, only_reads, only_updates}
 use Rattle.fin_life.specs.Passage.{ModeOf, turned, Passage, stmt_passage, passage_of}
 use Rattle.fin_life.specs.Mentions.{MentionOf, only_updates_of}

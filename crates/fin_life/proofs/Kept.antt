@@ -10,11 +10,13 @@ use Rattle.std.proofs.Math.Bool.{and_assoc}
 use Rattle.std.proofs.Math.Path.{fun_ext}
 use Rattle.fin_ast.specs.Bindings.{bindings_step, bindings_of, bindings_of_all}
 use Rattle.fin_ast.specs.Depth.{depth_step, depth_of, depth_of_all}
+use Rattle.fin_ast.specs.Literals.{is_worded, worded_stmt_step, is_worded_stmt, are_worded}
 use Rattle.fin_ast.specs.Scope.{Scope, holds_of, is_named_expr, stmt_step, is_named, are_named, outermost}
 use Rattle.fin_ast.specs.Text.{Text}
 use Rattle.fin_life.proofs.Equations.{at-Block, at-Loop, at-Cond, at-Bind, at-Freeze, at-Thaw}
 use Rattle.fin_ast.specs.Modes.{mode_before, is_input_at}
-use Rattle.fin_ast.specs.Life.{is_update, is_read, is_output}
+use Rattle.fin_ast.specs.Kinds.{is_output}
+use Rattle.fin_ast.specs.Life.{is_update, is_read}
 use Rattle.fin_ast.specs.Insertion.{Draft, put, put_for, put_at_end, in_header_order, Completion, put_before, put_whole, completed, completed_body, whole_of, stmt_completion, completion_of, completions_of, completed_program, only_reads, only_updates}
 
 -- something that is found of statements, and of lists of them by an operation with a neutral element; a freeze or a
@@ -117,6 +119,10 @@ module _ (hs : List Header) (A : Type 0) (one : Stmt → A) (all : List Stmt →
       ∙ ap (λ (n : A). plus n (all ss)) a.none
       ∙ a.left (all ss)
 
+true_right : (b : Bool) → (b && true) ≡ b
+true_right true = refl
+true_right false = refl
+
 -- what is bound
 binds : (hs : List Header) → IsAdditive hs (List ℕ) bindings_of bindings_of_all [] (λ xs ys. xs ++ ys)
 binds hs = record {
@@ -155,6 +161,25 @@ deepens hs = record {
 pub depth_kept : (p : Program) → depth_of_all (completed_program p) ≡ depth_of_all p.body
 depth_kept p = kept_at_end p.headers ℕ depth_of depth_of_all 0 max (deepens p.headers) p.body p.last
 
+-- whether literals are words
+words : (hs : List Header) → IsAdditive hs Bool is_worded_stmt are_worded true (λ a b. a && b)
+words hs = record {
+  none = refl;
+  more = λ x ss. refl;
+  left = λ b. refl;
+  right = true_right;
+  assoc = and_assoc;
+  freeze = λ t line l. at-Freeze Bool worded_stmt_step t line;
+  thaw = λ t line l. at-Thaw Bool worded_stmt_step t line;
+  block = λ ss rs line last e. at-Block Bool worded_stmt_step ss line last ∙ e ∙ sym (at-Block Bool worded_stmt_step rs line last);
+  loop = λ var range par ss rs line last e. at-Loop Bool worded_stmt_step var range par ss line last ∙ e ∙ sym (at-Loop Bool worded_stmt_step var range par rs line last);
+  cond = λ test ss rs line last e. at-Cond Bool worded_stmt_step test ss line last ∙ ap (λ (b : Bool). is_worded test && b) e ∙ sym (at-Cond Bool worded_stmt_step test rs line last);
+  bind = λ var value ss rs line last e. at-Bind Bool worded_stmt_step var value ss line last ∙ ap (λ (b : Bool). is_worded value && b) e ∙ sym (at-Bind Bool worded_stmt_step var value rs line last);
+}
+
+pub words_kept : (p : Program) → are_worded (completed_program p) ≡ are_worded p.body
+words_kept p = kept_at_end p.headers Bool is_worded_stmt are_worded true (λ a b. a && b) (words p.headers) p.body p.last
+
 -- the names, in scopes with these headers
 abbrev Named : Type 0
 Named = List ℕ → List ℕ → Bool
@@ -164,10 +189,6 @@ scope hs loops lets = record { headers = hs; loops = loops; lets = lets }
 
 both_named : Named → Named → Named
 both_named f g loops lets = f loops lets && g loops lets
-
-true_right : (b : Bool) → (b && true) ≡ b
-true_right true = refl
-true_right false = refl
 
 has_header : (hs : List Header) (t : ℕ) → t < length hs → holds_of (λ h. true) (slice_get hs t) ≡ true
 has_header [] t l = absurd (omega arith)

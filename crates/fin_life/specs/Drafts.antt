@@ -4,7 +4,8 @@ use Rattle.fin_ast.specs.declared.header.Header.{Header}
 use Rattle.fin_ast.specs.declared.mode.Mode.TheVariants.{Update, Read}
 use Rattle.fin_ast.specs.declared.tree.Stmt.{Stmt}
 use Rattle.fin_ast.specs.declared.tree.Stmt.TheVariants.{Freeze, Thaw}
-use Rattle.fin_ast.specs.Life.{is_update, is_read, is_output}
+use Rattle.fin_ast.specs.Kinds.{is_output}
+use Rattle.fin_ast.specs.Life.{is_update, is_read}
 use Rattle.fin_ast.specs.Modes.{is_input_at}
 use Rattle.fin_life.specs.Passage.{ModeOf, turned}
 use Rattle.fin_life.specs.Mentions.{MentionOf, only_reads_of, only_updates_of}

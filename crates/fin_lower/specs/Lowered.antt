@@ -7,7 +7,7 @@ use Rattle.fin_tensor.specs.Canon.{undecorated}
 use Rattle.fin_ast.specs.declared.header.Header.{Header}
 use Rattle.fin_ast.specs.declared.checked.Checked.{Checked}
 use Rattle.fin_ast.specs.Accepted.{IsAccepted, FitProgram}
-use Rattle.fin_ast.specs.Life.{is_output}
+use Rattle.fin_ast.specs.Kinds.{is_output}
 use Rattle.fin_ast.specs.Dense.{function_of}
 use Rattle.fin_ir.specs.Frozen.{Frozen, canon}
 use Rattle.fin_ir.specs.Machine.{Machine, stored, held}

@@ -8,10 +8,10 @@ use Rattle.fin_tensor.specs.Stands.{stands}
 use Rattle.fin_ast.specs.declared.header.Header.{Header}
 use Rattle.fin_ast.specs.declared.mode.Mode.TheVariants.{Undeclared, Read}
 use Rattle.fin_ast.specs.declared.checked.Checked.{Checked}
-use Rattle.fin_ast.specs.Kinds.{is_input}
+use Rattle.fin_ast.specs.Kinds.{is_input, is_output}
 use Rattle.fin_ast.specs.Modes.{is_input_at, mode_at_start}
 use Rattle.fin_ast.specs.Sizes.{broken, first_from}
-use Rattle.fin_ast.specs.Life.{is_read, is_output}
+use Rattle.fin_ast.specs.Life.{is_read}
 use Rattle.fin_ast.specs.Scope.{outermost}
 use Rattle.fin_ast.specs.Shaped.{AreShaped, FitHeaders}
 use Rattle.fin_ast.specs.Accepted.{IsAccepted, inputs_among, HaveFormats, FitProgram}

@@ -14,9 +14,9 @@ use Rattle.fin_ast.specs.declared.mode.Mode.{Mode}
 use Rattle.fin_ast.specs.declared.mode.Mode.TheVariants.{Undeclared, Update, Read}
 use Rattle.fin_ast.specs.Accepted.{IsAccepted, FitProgram}
 use Rattle.fin_ast.specs.Bindings.{bindings_of_all}
-use Rattle.fin_ast.specs.Kinds.{is_input}
+use Rattle.fin_ast.specs.Kinds.{is_input, is_output}
 use Rattle.fin_ast.specs.Modes.{is_input_at, is_input_header, mode_at_start}
-use Rattle.fin_ast.specs.Life.{is_read, is_output}
+use Rattle.fin_ast.specs.Life.{is_read}
 use Rattle.fin_ast.specs.Scope.{outermost}
 use Rattle.fin_ast.specs.Sizes.{ranges_of}
 use Rattle.fin_ast.specs.Infer.{places_in}

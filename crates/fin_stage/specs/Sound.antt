@@ -5,7 +5,7 @@ use Rattle.fin_tensor.specs.Canon.{undecorated}
 use Rattle.fin_ast.specs.declared.header.Header.{Header}
 use Rattle.fin_ast.specs.declared.checked.Checked.{Checked}
 use Rattle.fin_ast.specs.Accepted.{IsAccepted, FitProgram}
-use Rattle.fin_ast.specs.Life.{is_output}
+use Rattle.fin_ast.specs.Kinds.{is_output}
 use Rattle.fin_ast.specs.Dense.{evaluated, function_of, made_at}
 use Rattle.fin_stage.specs.Stages.{Frozen, function_in, stage_at}
 use Rattle.fin_stage.specs.Staged.{staged, regular}

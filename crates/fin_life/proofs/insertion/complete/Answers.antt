@@ -7,8 +7,9 @@ use Rattle.fin_life.specs.Completing.{carried_program}
 use Rattle.fin_ast.specs.Bindings.{counts_from, bindings_of_all}
 use Rattle.fin_ast.specs.Scope.{are_named, outermost}
 use Rattle.fin_ast.specs.Depth.{depth_of_all}
+use Rattle.fin_ast.specs.Literals.{are_worded}
 use Rattle.fin_life.proofs.Inserted.{insertion_is}
-use Rattle.fin_life.proofs.Kept.{bindings_kept, names_kept, depth_kept}
+use Rattle.fin_life.proofs.Kept.{bindings_kept, names_kept, depth_kept, words_kept}
 use Rattle.fin_life.proofs.insertion.complete.Goals as goal
 
 is_completed : (p : Program) (body ss : List Stmt) (hs : List Header) → body ≡ carried_program hs ss p.last → hs ≡ p.headers → ss ≡ p.body → body ≡ completed_program p
@@ -32,6 +33,12 @@ invariant_of-result-clause-named c =
     ap (λ (ss : List Stmt). are_named ss (outermost c.args.program.headers)) (is_completed c.args.program _ _ _ c.in_ok-body.ensures c.as_slice.ensures c.as_slice-2.ensures)
     ∙ names_kept c.args.program
     ∙ c.args.program.named
+
+pub invariant_of-result-clause-worded : goal.invariant_of-result-clause-worded
+invariant_of-result-clause-worded c =
+    ap are_worded (is_completed c.args.program _ _ _ c.in_ok-body.ensures c.as_slice.ensures c.as_slice-2.ensures)
+    ∙ words_kept c.args.program
+    ∙ c.args.program.worded
 
 pub invariant_of-result-clause-shallow : goal.invariant_of-result-clause-shallow
 invariant_of-result-clause-shallow c =

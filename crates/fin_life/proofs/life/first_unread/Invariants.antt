@@ -1,7 +1,8 @@
 use Rattle.std.proofs.Common.{◌≡◌, drop, not, ◌&&◌}
 use Rattle.fin_base.specs.declared.refusal.Rule.TheVariants.{L7}
 use Rattle.fin_ast.specs.Sizes.{first_from, broken}
-use Rattle.fin_ast.specs.Life.{is_output, is_read}
+use Rattle.fin_ast.specs.Kinds.{is_output}
+use Rattle.fin_ast.specs.Life.{is_read}
 use Rattle.fin_life.specs.Table.{mode_in}
 use Rattle.fin_life.proofs.life.first_unread.Given as goal
 
