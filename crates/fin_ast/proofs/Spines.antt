@@ -1,5 +1,5 @@
 -- Walks along the left side of an expression: down to its head, and up again side by side.
-use Rattle.std.proofs.Common.{◌≡◌, ℕ, ◌+◌, ◌<◌, ◌≤◌, List, [], ◌∷◌, ◌++◌, map, Bor, subst, refl, sym, ap, ◌∙◌, arith}
+use Rattle.std.proofs.Common.{◌≡◌, ℕ, ◌+◌, ◌<◌, ◌≤◌, List, [], ◌∷◌, ◌++◌, Bor, subst, refl, sym, ap, ◌∙◌, arith}
 use Rattle.fin_base.specs.declared.terms.Op.{Op}
 use Rattle.fin_ast.specs.declared.tree.Expr.{Expr, fold-Expr}
 use Rattle.fin_ast.specs.declared.tree.Expr.TheOpen.{Expr-F}

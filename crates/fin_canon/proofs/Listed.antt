@@ -1,13 +1,11 @@
 -- The lists of a canonical storage stand for the function, and are valid where its size allows.
-use Rattle.std.proofs.Common.{◌≡◌, ◌∙◌, refl, sym, ap, subst, arith, ℕ, ℤ, List, [], ◌∷◌, length, IsTrue, Bool, true, false}
-use Rattle.std.specs.Prelude.{nat_le, ◌&&◌, ◌^◌, ◌≤◌}
-use Rattle.std.proofs.lemmas.Bool.Decides.{nat_tests}
+use Rattle.std.proofs.Common.{◌≡◌, ◌∙◌, refl, sym, ap, subst, arith, ℕ, ℤ, List, [], ◌∷◌, length, IsTrue}
 use Rattle.fin_tensor.specs.declared.format.Level.{Level}
 use Rattle.fin_tensor.specs.TensorFunction.{TensorFunction, HasCells, value_at, is_in_box}
 use Rattle.fin_tensor.specs.Levels.{value_from}
 use Rattle.fin_tensor.specs.Stands.{tabulated}
 use Rattle.fin_tensor.specs.Placement.{RunsStandLast}
-use Rattle.fin_tensor.specs.Canon.{Slice, kept, next, canon_parts, canon_values, IsAllowed, is_allowed}
+use Rattle.fin_tensor.specs.Canon.{canon_parts, canon_values}
 use Rattle.fin_tensor.proofs.Cells.{cells_agreeing_inside, tabulated_has_cells}
 use Rattle.fin_tensor.proofs.Tabulated.{tabulated_fill, tabulated_shape, tabulated_gives}
 use Rattle.fin_canon.proofs.Placed.{placed_over}
@@ -27,32 +25,3 @@ module _ (levels : List Level) (f : TensorFunction) (runs : RunsStandLast levels
       let shape : (tabulated f.shape f.fill g).shape ≡ f.shape = tabulated_shape f.shape f.fill g in
       cells_agreeing_inside (tabulated f.shape f.fill g) f (tabulated_has_cells f.shape f.fill g) cells shape (tabulated_fill f.shape f.fill g)
       (λ cs within. let own : IsTrue (is_in_box f.shape cs) = subst (λ (ns : List ℕ). IsTrue (is_in_box ns cs)) shape within in (tabulated_gives f.shape f.fill g).0 cs own ∙ listed_value cs own)
-
--- the test of sizes
-le_by : (m n : ℕ) → nat_le m n ≡ true → m ≤ n
-le_by m n e = grind (arith, nat_tests)
-
-by_le : (m n : ℕ) → m ≤ n → nat_le m n ≡ true
-by_le m n h = grind (arith, nat_tests)
-
-left : (a b : Bool) → (a && b) ≡ true → a ≡ true
-left true b h = refl
-left false b h = h
-
-right : (a b : Bool) → (a && b) ≡ true → b ≡ true
-right true b h = h
-right false b h = cc
-
-both : (a b : Bool) → a ≡ true → b ≡ true → (a && b) ≡ true
-both true b e h = h
-both false b e h = e
-
-pub allowed_by : (ls : List Level) (fill : ℤ) (ns : List ℕ) (fs : List Slice) → is_allowed ls fill ns fs ≡ true → IsAllowed ls fill ns fs
-allowed_by [] fill ns fs e = le_by (length fs) (2 ^ 40) e
-allowed_by (l ∷ ls) fill [] fs e = cc
-allowed_by (l ∷ ls) fill (n ∷ ns) fs e = (le_by (length fs) (2 ^ 40) (left _ _ e), allowed_by ls fill ns (next (kept l fill n ns) fs) (right (nat_le (length fs) (2 ^ 40)) _ e))
-
-pub by_allowed : (ls : List Level) (fill : ℤ) (ns : List ℕ) (fs : List Slice) → IsAllowed ls fill ns fs → is_allowed ls fill ns fs ≡ true
-by_allowed [] fill ns fs h = by_le (length fs) (2 ^ 40) h
-by_allowed (l ∷ ls) fill [] fs h = absurd h
-by_allowed (l ∷ ls) fill (n ∷ ns) fs h = both _ _ (by_le (length fs) (2 ^ 40) h.0) (by_allowed ls fill ns (next (kept l fill n ns) fs) h.1)

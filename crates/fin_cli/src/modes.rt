@@ -2,7 +2,6 @@
 ghost use Rattle.std.specs.Prelude.{◌≡◌, ◌≢◌, ◌≤◌, ◌^◌, ℕ, List, length};
 ghost use Rattle.fin_ast.specs.Accepted.{FitProgram, IsAccepted};
 ghost use Rattle.fin_ast.specs.Dense.{function_of};
-ghost use Rattle.fin_ast.specs.Shaped.{FitHeaders};
 ghost use Rattle.fin_dense.specs.Plain.{AreStored, outputs_from};
 ghost use Rattle.fin_ports.specs.Bytes.{most};
 ghost use Rattle.fin_engine.specs.Verdict.{IsJob};
@@ -55,7 +54,6 @@ fn serve_accepted<O: Sink>(
 ) -> Result<Answer, Stop>
     requires mode { mode ≢ Mode.Gen }
     requires budget { budget ≤ 2 ^ 40 }
-    requires fits { FitHeaders job.now.checked.program.headers job.now.checked.dims }
     requires accepted { IsAccepted job.now.checked }
     requires inputs { FitProgram job.now.checked job.now.inputs }
     ensures comes { (source : Across) (text : List ℕ) → IsJob text job.now → Comes source (across (O.taken out.old) (O.taken out.new) (O.faults out.old) (O.faults out.new)) (IsDueThen budget mode text) result }
@@ -85,7 +83,6 @@ fn run<O: Sink>(alloc: Global, job: &Job, budget: u64, out: &mut O) -> Result<An
 
 // Evaluates a job coordinate by coordinate and writes its outputs.
 fn evaluate<O: Sink>(alloc: Global, job: &Job, out: &mut O) -> Result<Answer, Stop>
-    requires fits { FitHeaders job.now.checked.program.headers job.now.checked.dims }
     ensures comes { (source : Across) (text : List ℕ) → IsJob text job.now → Comes source (across (O.taken out.old) (O.taken out.new) (O.faults out.old) (O.faults out.new)) (IsDuePlain text) result }
     ensures later { O.Later out.old out.new }
 {

@@ -12,10 +12,10 @@ use Rattle.fin_ir.specs.CanBuild.{can_build}
 use Rattle.fin_ir.proofs.Builds.{of_builds}
 use Rattle.fin_base.specs.declared.reduce.Reduce.{Reduce}
 use Rattle.fin_tensor.specs.declared.storage.Storage.{Storage}
-use Rattle.fin_tensor.specs.Building.{Building, started}
+use Rattle.fin_tensor.specs.Building.{Building, no_format, started}
 use Rattle.fin_ir.specs.declared.layout.Layout.{Layout}
 use Rattle.fin_ir.specs.Frozen.{frozen_of, canon, is_large}
-use Rattle.fin_ir.specs.Machine.{building, stored, Effect, Machine, refused, set_tensor, can_update, put, changed_by, update, can_declare, format_at, shape_at, no_format, declare, cut_off, frozen_at, freeze, thawed, thawed_at, thaw, is_made}
+use Rattle.fin_ir.specs.Machine.{building, stored, Effect, Machine, refused, set_tensor, can_update, put, changed_by, update, can_declare, format_at, shape_at, declare, cut_off, frozen_at, freeze, thawed, thawed_at, thaw, is_made}
 use Rattle.fin_run.specs.declared.state.Held.TheVariants as h
 use Rattle.fin_run.specs.declared.state.State.{State}
 use Rattle.fin_run.specs.States.{machine}

@@ -1,6 +1,5 @@
 //! Whole programs.
 ghost use Rattle.std.specs.Prelude.{◌≡◌, ◌<◌, ◌≤◌, ◌^◌, IfOk, IsErrOf, map, pos};
-ghost use Rattle.fin_ast.specs.Shaped.{FitHeaders};
 ghost use Rattle.fin_dense.specs.Fitting.{whole};
 ghost use Rattle.fin_dense.specs.Plain.{IsOver, IsPlain, Plains};
 ghost use Rattle.fin_dense.specs.Runs.{setting_in, state_of};
@@ -22,7 +21,6 @@ use std::alloc::{AllocError, Global};
 /// `B2` without a line, exactly where dense evaluation makes more than 2^24 loop turns or an output isn't valid by its
 /// size; and want of memory.
 pub fn plain(alloc: Global, checked: &Checked, inputs: &[Storage]) -> Result<Outputs, Fail>
-    requires fits { FitHeaders checked.now.program.headers checked.now.dims }
     ensures plains { Plains checked.now inputs.now result }
 {
     let outputs = evaluate(alloc, checked, inputs)?;
@@ -30,7 +28,6 @@ pub fn plain(alloc: Global, checked: &Checked, inputs: &[Storage]) -> Result<Out
 }
 
 fn evaluate(alloc: Global, checked: &Checked, inputs: &[Storage]) -> Result<Outputs, Halt>
-    requires fits { FitHeaders checked.now.program.headers checked.now.dims }
     ensures plain { IfOk result (λ o. IsPlain checked.now inputs.now o) }
     ensures over { IsErrOf result Halt.Spent → IsOver checked.now inputs.now }
 {

@@ -2,7 +2,6 @@
 ghost use Rattle.std.specs.Prelude.{◌≡◌, ◌≤◌, ◌^◌, IfOk, option_map};
 ghost use Rattle.fin_tensor.specs.Stands.{stands};
 ghost use Rattle.fin_ast.specs.Dense.{fill_of, made_at, range_of, setting_of, shape_at};
-ghost use Rattle.fin_ast.specs.Shaped.{FitHeaders};
 ghost use Rattle.fin_dense.specs.Inputs.{numbered};
 ghost use Rattle.fin_dense.specs.Runs.{setting_in};
 
@@ -17,7 +16,6 @@ pub fn setting<'a>(
     checked: &'a Checked,
     inputs: &'a [Storage],
 ) -> Result<Setting<'a>, AllocError>
-    requires fits { FitHeaders checked.now.program.headers checked.now.dims }
     ensures same { IfOk result (λ s. setting_in s ≡ setting_of checked.now inputs.now) }
     ensures program { IfOk result (λ s. s.checked.now ≡ checked.now) }
 {

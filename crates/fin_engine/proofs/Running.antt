@@ -13,7 +13,6 @@ use Rattle.fin_ast.specs.Kinds.{is_output}
 use Rattle.fin_ast.specs.declared.header.Kind.{Kind}
 use Rattle.fin_ast.specs.declared.header.Kind.TheVariants.{Input, Output, Local}
 use Rattle.fin_ast.specs.Dense.{function_of, setting_of, unbound}
-use Rattle.fin_ast.proofs.Fitting.{found_fit}
 use Rattle.fin_dense.specs.Plain as dense
 use Rattle.fin_ir.specs.declared.layout.Plan.{Plan}
 use Rattle.fin_ir.specs.Frozen as plain
@@ -85,7 +84,7 @@ is_canon format f s fill same = record {
 
 module _ (c : Checked) (inputs : List Storage) (accepted : IsAccepted c) (fit : FitProgram c inputs) where
   pub headers_fit : FitHeaders c.program.headers c.dims
-  headers_fit = found_fit c.program accepted.shapes c.dims accepted.small accepted.extents
+  headers_fit = c.fits
 
   lowered : IsLowered c inputs
   lowered = accepted_is_lowered c inputs accepted fit

@@ -1,7 +1,6 @@
 //! The verdict on a job.
 ghost use Rattle.std.specs.Prelude.{◌≡◌, ◌≤◌, length, IfOk};
 ghost use Rattle.fin_ast.specs.Accepted.{FitProgram, IsAccepted};
-ghost use Rattle.fin_ast.specs.Shaped.{FitHeaders};
 ghost use Rattle.fin_engine.specs.Verdict.{Checks, ChecksProgram, ChecksWhole};
 
 use crate::cut::cut;
@@ -25,12 +24,10 @@ use std::alloc::Global;
 /// The first rule that the text breaks, with its line, in the order of the rules (`docs/LANGUAGE.md`); and want of
 /// memory.
 ///
-/// The extents of a job fit its headers: each tensor has one for each level, and none is over 2^40. Its program is an
-/// accepted one, and its inputs fit that.
+/// The program of a job is an accepted one, and its inputs fit that.
 pub fn check(alloc: Global, text: &[u8]) -> Result<Job, Fail>
     requires short { length text.now ≤ 16777216 }
     ensures verdict { Checks text.now result }
-    ensures fits { IfOk result (λ job. FitHeaders job.checked.program.headers job.checked.dims) }
     ensures accepted { IfOk result (λ job. IsAccepted job.checked) }
     ensures inputs { IfOk result (λ job. FitProgram job.checked job.inputs) }
 {

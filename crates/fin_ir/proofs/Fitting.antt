@@ -5,7 +5,8 @@ use Rattle.std.specs.Prelude.{nat_eq, if◌then◌else◌, slice_get, slice_inde
 use Rattle.fin_tensor.specs.declared.format.Format.{Format}
 use Rattle.fin_tensor.specs.declared.storage.Storage.{Storage}
 use Rattle.fin_ir.specs.declared.layout.Layout.{Layout}
-use Rattle.fin_ir.specs.Machine.{nothing, held, no_format}
+use Rattle.fin_tensor.specs.Building.{no_format}
+use Rattle.fin_ir.specs.Machine.{nothing, held}
 use Rattle.fin_ir.specs.Start.{given_if, given, first_tensors, started}
 use Rattle.fin_ir.specs.Regular.{InputsFit, input_boxes, IsOf, Fits}
 

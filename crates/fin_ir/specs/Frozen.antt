@@ -1,13 +1,12 @@
 -- A tensor that is a storage, as plain lists, and a tensor function's canonical one.
-use Rattle.std.specs.Prelude.{ℕ, ◌^◌, Bool, false, ◌&&◌, not, nat_le, List, [], ◌∷◌, length, ℤ}
+use Rattle.std.specs.Prelude.{ℕ, Bool, not, List, [], ◌∷◌, ℤ}
 use Rattle.fin_tensor.specs.declared.format.Format.{Format}
-use Rattle.fin_tensor.specs.declared.format.Level.{Level}
 use Rattle.fin_tensor.specs.declared.format.Wrap.TheVariants.{Bare}
 use Rattle.fin_tensor.specs.declared.part.Part.{Part}
 use Rattle.fin_tensor.specs.declared.storage.Storage.{Storage}
 use Rattle.fin_tensor.specs.TensorFunction.{TensorFunction, value_at}
 use Rattle.fin_tensor.specs.Building.{Building}
-use Rattle.fin_tensor.specs.Canon.{Slice, kept, next, canon_parts, canon_values}
+use Rattle.fin_tensor.specs.Canon.{canon_parts, canon_values, is_allowed}
 use Rattle.fin_tensor.specs.Stands.{tabulated}
 use Rattle.fin_tensor.specs.Levels.{value_from}
 
@@ -33,12 +32,6 @@ canon b = record {
   val = canon_values b.format.levels b.function.fill b.function.shape (value_at b.function ∷ []);
 }
 
--- no level of these slices has more than 2^40 fibres, and there are at most 2^40 values
-abbrev pub are_few : List Level → ℤ → List ℕ → List Slice → Bool
-are_few [] fill ns fs = nat_le (length fs) (2 ^ 40)
-are_few (l ∷ ls) fill [] fs = false
-are_few (l ∷ ls) fill (n ∷ ns) fs = nat_le (length fs) (2 ^ 40) && are_few ls fill ns (next (kept l fill n ns) fs)
-
 -- the canonical storage isn't valid by its size
 abbrev pub is_large : Building → Bool
-is_large b = not (are_few b.format.levels b.function.fill b.function.shape (value_at b.function ∷ []))
+is_large b = not (is_allowed b.format.levels b.function.fill b.function.shape (value_at b.function ∷ []))

@@ -3,9 +3,8 @@ use Rattle.std.specs.Prelude.{ℕ, ◌+◌, ◌^◌, Bool, true, false, ◌&&◌
 use Rattle.fin_base.specs.declared.reduce.Reduce.{Reduce}
 use Rattle.fin_base.specs.Words.{apply}
 use Rattle.fin_tensor.specs.declared.format.Format.{Format}
-use Rattle.fin_tensor.specs.declared.format.Wrap.TheVariants.{Bare}
 use Rattle.fin_tensor.specs.TensorFunction.{is_in_box}
-use Rattle.fin_tensor.specs.Building.{Building, started, follows, updated}
+use Rattle.fin_tensor.specs.Building.{Building, no_format, started, follows, updated}
 use Rattle.fin_ir.specs.declared.layout.Layout.{Layout}
 use Rattle.fin_ir.specs.Frozen.{Frozen, stood_for, canon, is_large}
 use Rattle.fin_ir.specs.CanBuild.{can_build}
@@ -115,9 +114,6 @@ update_at t (Some at) by v m = changed_by (record { tensor = t; at = at; by = by
 
 abbrev pub update : ℕ → List ℤ → Reduce → ℤ → Machine → Machine
 update t at by v m = live m (update_at t (coordinates at) by v m)
-
-abbrev pub no_format : Format
-no_format = record { levels = []; wrap = Bare; fill = pos 0 }
 
 abbrev pub format_at : Layout → ℕ → Format
 format_at layout t = slice_index_or layout.formats t no_format

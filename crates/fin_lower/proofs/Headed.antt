@@ -1,14 +1,13 @@
 -- The headers of a program by number: what the layout has of each, and that each tensor can be built.
 use Rattle.std.proofs.Common.{◌≡◌, ◌<◌, ℕ, zero, suc, List, [], ◌∷◌, map, length, Option, Some, refl, ap, arith}
 use Rattle.std.specs.Prelude.{slice_get, slice_index_or, unwrap_or, option_map, nat_eq}
-use Rattle.fin_tensor.specs.Building.{CanBuild}
+use Rattle.fin_tensor.specs.Building.{no_format, CanBuild}
 use Rattle.fin_ast.specs.declared.header.Header.{Header}
 use Rattle.fin_ast.specs.declared.header.Kind.{Kind}
 use Rattle.fin_ast.specs.declared.header.Kind.TheVariants.{Input, Output, Local}
 use Rattle.fin_ast.specs.Kinds.{is_input}
 use Rattle.fin_ast.specs.Shaped.{AreShaped}
 use Rattle.fin_ir.specs.Machine as machine
-use Rattle.fin_stage.specs.Staged.{no_format}
 use Rattle.fin_read.specs.Values.{heads_of, format_of, shape_of}
 use Rattle.fin_lower.specs.Plans.{kind_number}
 
@@ -17,7 +16,7 @@ header_there [] t lt = absurd (omega arith)
 header_there (x ∷ hs) zero lt = (x, refl)
 header_there (x ∷ hs) (suc t) lt = header_there hs t (omega arith)
 
-pub formats_are : (hs : List Header) (shapes : List (List ℕ)) (t : ℕ) → slice_index_or (map (λ (x : Header). x.format) hs) t machine.no_format ≡ format_of (heads_of hs shapes) t
+pub formats_are : (hs : List Header) (shapes : List (List ℕ)) (t : ℕ) → slice_index_or (map (λ (x : Header). x.format) hs) t no_format ≡ format_of (heads_of hs shapes) t
 formats_are [] shapes t = refl
 formats_are (x ∷ hs) shapes zero = refl
 formats_are (x ∷ hs) shapes (suc t) = formats_are hs shapes t

@@ -7,8 +7,8 @@ use Rattle.fin_tensor.specs.declared.format.Format.{Format}
 use Rattle.fin_tensor.specs.declared.format.Level.{Level}
 use Rattle.fin_tensor.specs.declared.storage.Storage.{Storage}
 use Rattle.fin_tensor.specs.TensorFunction.{TensorFunction, value_at}
-use Rattle.fin_tensor.specs.Building.{Building, started, CanBuild}
-use Rattle.fin_tensor.specs.Canon.{Slice, kept, next, undecorated, is_allowed}
+use Rattle.fin_tensor.specs.Building.{Building, unchanged, started, CanBuild}
+use Rattle.fin_tensor.specs.Canon.{undecorated, is_allowed}
 use Rattle.fin_tensor.specs.Levels.{AreSmall, value_from}
 use Rattle.fin_tensor.specs.Stands.{tabulated}
 use Rattle.fin_tensor.specs.Placement.{RunsStandLast}
@@ -21,7 +21,7 @@ use Rattle.fin_ast.specs.Dense.{Setting, setting_of, shape_at}
 use Rattle.fin_ast.specs.Shaped.{FitHeaders}
 use Rattle.fin_ir.specs.declared.code.Code.TheVariants.{Declare, Freeze, Thaw, Charge}
 use Rattle.fin_ir.specs.CanBuild.{can_build}
-use Rattle.fin_ir.specs.Frozen.{canon, are_few, is_large, stood_for}
+use Rattle.fin_ir.specs.Frozen.{canon, is_large, stood_for}
 use Rattle.fin_ir.specs.Machine.{Machine, Tensor, nothing, building, stored, held, seen, refused, can_declare, cut_off, frozen_at, thawed, thawed_at}
 use Rattle.fin_ir.specs.Machine as machine
 use Rattle.fin_ir.specs.declared.expression.IExpr.TheVariants.{Num}
@@ -38,27 +38,21 @@ use Rattle.fin_read.specs.Means.{CountsMean}
 use Rattle.fin_lower.specs.Lowering.{charge_of, count_of, declare_code, freeze_code, thaw_code}
 use Rattle.fin_lower.specs.Plans.{heads_in, layout_of}
 use Rattle.fin_lower.specs.Lowered.{canon_of}
-use Rattle.fin_lower.proofs.Related.{unchanged, Stand, Live, Over, Related}
+use Rattle.fin_lower.proofs.Related.{Stand, Live, Over, Related}
 use Rattle.fin_lower.proofs.Headed.{formats_are, kind_is, input_number, shapes_long, builds_there}
 use Rattle.fin_lower.proofs.Given.{made_is_other}
 use Rattle.fin_lower.proofs.Seen.{few_of, canon_valid, seen_held, stage_there}
 use Rattle.fin_lower.proofs.Changed.{paid, charge_pays, number_pays, cut_pays, worked_live, changed_to, changed_live, built_is_made, made_by}
 
--- the two tests of sizes are one
-allowed_is_few : (ls : List Level) (fill : ℤ) (ns : List ℕ) (fs : List Slice) → is_allowed ls fill ns fs ≡ are_few ls fill ns fs
-allowed_is_few [] fill ns fs = refl
-allowed_is_few (l ∷ ls) fill [] fs = refl
-allowed_is_few (l ∷ ls) fill (n ∷ ns) fs = ap (λ (b : Bool). nat_le (length fs) (2 ^ 40) && b) (allowed_is_few ls fill ns (next (kept l fill n ns) fs))
-
 storing_small : (b : Building) → is_large b ≡ false → work_of_storing b.format b.function ≡ 1 + length (canon b).val
 storing_small b e =
     let few = few_of b e in
-    ap (λ (t : Bool). if t then 1 + length (canon b).val else 2 ^ 40 + 1) (allowed_is_few b.format.levels b.function.fill b.function.shape (value_at b.function ∷ []) ∙ few)
+    ap (λ (t : Bool). if t then 1 + length (canon b).val else 2 ^ 40 + 1) few
 
 storing_large : (b : Building) → is_large b ≡ true → work_of_storing b.format b.function ≡ 2 ^ 40 + 1
 storing_large b e =
-    let few = not-true (are_few b.format.levels b.function.fill b.function.shape (value_at b.function ∷ [])) e in
-    ap (λ (t : Bool). if t then 1 + length (canon b).val else 2 ^ 40 + 1) (allowed_is_few b.format.levels b.function.fill b.function.shape (value_at b.function ∷ []) ∙ few)
+    let few = not-true (is_allowed b.format.levels b.function.fill b.function.shape (value_at b.function ∷ [])) e in
+    ap (λ (t : Bool). if t then 1 + length (canon b).val else 2 ^ 40 + 1) few
 
 paid_twice : (a b : ℕ) (m : Machine) → paid b (paid a m) ≡ paid (a + b) m
 paid_twice a b m = let e : m.charges + a + b ≡ m.charges + (a + b) = omega arith in ap (λ (k : ℕ). record m { charges = k }) e

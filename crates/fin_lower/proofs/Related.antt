@@ -3,7 +3,7 @@ use Rattle.std.specs.Prelude.{◌≡◌, ℕ, ◌<◌, ◌≤◌, ◌^◌, ◌�
 use Rattle.fin_tensor.specs.declared.format.Format.{Format}
 use Rattle.fin_tensor.specs.declared.storage.Storage.{Storage}
 use Rattle.fin_tensor.specs.TensorFunction.{TensorFunction}
-use Rattle.fin_tensor.specs.Building.{Building}
+use Rattle.fin_tensor.specs.Building.{unchanged}
 use Rattle.fin_ast.specs.declared.checked.Checked.{Checked}
 use Rattle.fin_ast.specs.Dense.{Setting, setting_of}
 use Rattle.fin_ir.specs.declared.layout.Layout.{Layout}
@@ -16,10 +16,6 @@ use Rattle.fin_read.specs.Steps.{Agree}
 use Rattle.fin_read.specs.Values.{Heads}
 use Rattle.fin_lower.specs.Plans.{heads_in, layout_of}
 use Rattle.fin_lower.specs.Lowered.{begun, canon_of}
-
--- a function in a format, in which nothing was updated
-abbrev pub unchanged : Format → TensorFunction → Building
-unchanged format f = record { format = format; function = f; last = None }
 
 -- a machine's tensor stands for a stage; what is frozen has a canonical storage
 abbrev pub Stand : Stage → Tensor → Type 0

@@ -8,10 +8,10 @@ use Rattle.fin_tensor.specs.declared.format.Format.{Format}
 use Rattle.fin_tensor.specs.declared.format.Level.{Level}
 use Rattle.fin_tensor.specs.declared.storage.Storage.{Storage}
 use Rattle.fin_tensor.specs.TensorFunction.{TensorFunction, value_at}
-use Rattle.fin_tensor.specs.Building.{Building}
+use Rattle.fin_tensor.specs.Building.{Building, unchanged}
 use Rattle.fin_tensor.specs.Levels.{AreSmall, IsStored, value_from}
 use Rattle.fin_tensor.specs.Placement.{RunsStandLast}
-use Rattle.fin_tensor.specs.Canon.{undecorated}
+use Rattle.fin_tensor.specs.Canon.{undecorated, is_allowed}
 use Rattle.fin_tensor.specs.Stands.{stands}
 use Rattle.fin_tensor.proofs.Tabulated.{tabulated_shape, tabulated_fill, stands_at}
 use Rattle.fin_canon.proofs.Placed.{placed_over}
@@ -21,7 +21,7 @@ use Rattle.fin_ast.specs.declared.checked.Checked.{Checked}
 use Rattle.fin_ast.specs.Accepted.{FitProgram}
 use Rattle.fin_ast.specs.Dense.{made_at, setting_of}
 use Rattle.fin_ast.specs.Shaped.{FitHeaders}
-use Rattle.fin_ir.specs.Frozen.{frozen_of, canon, are_few, is_large}
+use Rattle.fin_ir.specs.Frozen.{frozen_of, canon, is_large}
 use Rattle.fin_ir.specs.Machine.{Machine, Tensor, stored, over, held, seen}
 use Rattle.fin_ir.proofs.Freezing.{few_allowed}
 use Rattle.fin_stage.specs.Stages.{Stage, Absent, Built, Frozen, stage_at, frozen_in, readable}
@@ -33,7 +33,7 @@ use Rattle.fin_read.specs.Sees.{Sees, SeesAll}
 use Rattle.fin_lower.specs.Plans.{heads_in}
 use Rattle.fin_lower.proofs.Headed.{format_is, builds_there}
 use Rattle.fin_lower.proofs.Given.{given_is_input}
-use Rattle.fin_lower.proofs.Related.{unchanged, Stand, Live}
+use Rattle.fin_lower.proofs.Related.{Stand, Live}
 
 -- ---- one tensor
 
@@ -51,8 +51,8 @@ given_seen ts t s e =
       gives = λ cs within. stands_at s cs within;
     }
 
-pub few_of : (b : Building) → is_large b ≡ false → are_few b.format.levels b.function.fill b.function.shape (value_at b.function ∷ []) ≡ true
-few_of b e = not-false (are_few b.format.levels b.function.fill b.function.shape (value_at b.function ∷ [])) e
+pub few_of : (b : Building) → is_large b ≡ false → is_allowed b.format.levels b.function.fill b.function.shape (value_at b.function ∷ []) ≡ true
+few_of b e = not-false (is_allowed b.format.levels b.function.fill b.function.shape (value_at b.function ∷ [])) e
 
 -- a canonical storage that isn't too large is valid
 pub canon_valid : (b : Building) → RunsStandLast b.format.levels → length b.function.shape ≡ length b.format.levels → AreSmall b.function.shape → is_large b ≡ false → IsStored 1 b.format.levels b.function.shape (canon b).parts (canon b).val

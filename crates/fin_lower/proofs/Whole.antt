@@ -11,7 +11,6 @@ use Rattle.fin_ast.specs.Scope.{outermost}
 use Rattle.fin_ast.specs.Shaped.{FitHeaders}
 use Rattle.fin_ast.specs.Sizes.{ranges_of}
 use Rattle.fin_ast.specs.Dense.{unbound}
-use Rattle.fin_ast.proofs.Fitting.{found_fit}
 use Rattle.fin_ast.proofs.Induction.{all_by_kind}
 use Rattle.fin_ir.specs.Machine.{held}
 use Rattle.fin_ir.specs.Meaning.{meaning_all}
@@ -33,7 +32,7 @@ use Rattle.fin_lower.proofs.Beside.{goings, namings}
 
 module _ (c : Checked) (inputs : List Storage) (accepted : IsAccepted c) (given_fit : FitProgram c inputs) where
   fits : FitHeaders c.program.headers c.dims
-  fits = found_fit c.program accepted.shapes c.dims accepted.small accepted.extents
+  fits = c.fits
 
   enough : 0 + length (bindings_of_all c.program.body) ≤ variables_in c
   enough =

@@ -1,6 +1,5 @@
 //! Programs lowered to plans.
 ghost use Rattle.std.specs.Prelude.{◌≡◌, IfOk, OnOk, length, map};
-ghost use Rattle.fin_ast.specs.Shaped.{FitHeaders};
 ghost use Rattle.fin_ast.specs.declared.header.Header.{Header};
 ghost use Rattle.fin_lower.specs.Plans as spec;
 
@@ -15,7 +14,6 @@ use std::alloc::{AllocError, Global};
 /// The plan of a program: the code of its body, over its tensors, and as many locals as that needs. There is no memory
 /// for as many locals as a `u32` can't count.
 pub fn lower(alloc: Global, checked: &Checked) -> Result<Plan, AllocError>
-    requires fits { FitHeaders checked.now.program.headers checked.now.dims }
     ensures { IfOk result (λ p. p ≡ spec.plan_of checked.now) }
 {
     let ranges = checked.dims.ranges.as_slice();
@@ -36,7 +34,6 @@ fn code_of(
     variables: u32,
     locals: &mut u32,
 ) -> Result<Code, AllocError>
-    requires fits { FitHeaders checked.now.program.headers checked.now.dims }
     requires variables { variables ≡ spec.variables_in checked.now }
     requires begin { locals.old ≡ variables }
     ensures code { IfOk result (λ c. c ≡ spec.code_of checked.now) }

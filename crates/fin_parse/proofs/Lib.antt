@@ -27,6 +27,7 @@ pub mod WordPlacement
 pub mod HeadSound
 pub mod HeadLinks
 pub mod Words
+pub mod WordLiterals
 pub mod Elaborations
 pub mod Programs
 pub mod OneProgram

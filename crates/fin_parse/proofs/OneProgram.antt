@@ -13,6 +13,7 @@ use Rattle.fin_ast.specs.Headers.{names_of}
 use Rattle.fin_ast.specs.Bindings.{counts_from, bindings_of_all}
 use Rattle.fin_ast.specs.Scope.{are_named, outermost}
 use Rattle.fin_ast.specs.Depth.{IsShallow}
+use Rattle.fin_ast.specs.Literals.{are_worded}
 use Rattle.fin_tensor.specs.declared.format.Format.{Format}
 use Rattle.fin_ast.specs.declared.header.Header.{Header}
 use Rattle.fin_ast.specs.declared.program.Program.{Program}
@@ -77,15 +78,16 @@ record Kept (headers : List Header) (body : List Stmt) : Type 0 where
   numbered : IsTrue (counts_from 0 (bindings_of_all body))
   named : IsTrue (are_named body (outermost headers))
   shallow : IsShallow body
+  worded : IsTrue (are_worded body)
 
 kept_prop : (headers : List Header) (body : List Stmt) → IsProp (Kept headers body)
 kept_prop headers body = hlevel (props, IsDistinct-prop (pointwise nat_eq) (names_of headers))
 
 abbrev made_program : (headers : List Header) (body : List Stmt) (last : ℕ) → Kept headers body → Program
-made_program headers body last k = record { headers = headers; body = body; last = last; few = k.few; distinct = k.distinct; numbered = k.numbered; named = k.named; shallow = k.shallow }
+made_program headers body last k = record { headers = headers; body = body; last = last; few = k.few; distinct = k.distinct; numbered = k.numbered; named = k.named; shallow = k.shallow; worded = k.worded }
 
 abbrev kept_of : (a : Program) → Kept a.headers a.body
-kept_of a = record { few = a.few; distinct = a.distinct; numbered = a.numbered; named = a.named; shallow = a.shallow }
+kept_of a = record { few = a.few; distinct = a.distinct; numbered = a.numbered; named = a.named; shallow = a.shallow; worded = a.worded }
 
 same_program : (a b : Program) → a.headers ≡ b.headers → a.body ≡ b.body → a.last ≡ b.last → a ≡ b
 same_program a b h k l =

@@ -42,6 +42,8 @@ use Rattle.fin_parse.proofs.Keeping.{literal_word, AreNamed, Context, Agrees, fi
 use Rattle.fin_parse.proofs.Named.{body_keeps}
 use Rattle.fin_parse.proofs.NamedStatements.{stmts_row}
 use Rattle.fin_parse.proofs.OneVerdict.{one_text}
+use Rattle.fin_ast.specs.Literals.{are_worded}
+use Rattle.fin_parse.proofs.WordLiterals.{statements_worded}
 use Rattle.fin_parse.proofs.Sizes.{Fits, body_sized, numbers_count}
 
 -- ---- fills
@@ -241,3 +243,6 @@ module _ (text : List ℕ) (trees : Text) (tokens : List Token) (ok : IsAccepted
 
   pub shallow : IsShallow body
   shallow = subst IsShallow (sym is) (body_is_shallow text trees tokens ok)
+
+  pub worded : IsTrue (are_worded body)
+  worded = ap are_worded is ∙ statements_worded text (tensors_of [] (map header_of trees.headers)) trees.body

@@ -12,7 +12,7 @@ use Rattle.fin_ast.specs.declared.tree.Expr.TheOpen.{Expr-F}
 use Rattle.fin_ir.specs.declared.code.Code.{Code}
 use Rattle.fin_ir.specs.declared.expression.IExpr.{IExpr}
 use Rattle.fin_ir.specs.declared.expression.IExpr.TheVariants.{Num, Local, Neg, Two}
-use Rattle.fin_stage.specs.Staged.{no_format}
+use Rattle.fin_tensor.specs.Building.{no_format}
 use Rattle.fin_read.specs.Steps.{Step, assign_of}
 use Rattle.fin_read.specs.Reads.{read_steps}
 

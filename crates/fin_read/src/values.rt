@@ -1,7 +1,7 @@
 //! The code of expressions.
 ghost use Rattle.std.specs.Prelude.{◌≡◌, ◌+◌, ◌≤◌, ◌<◌, ◌^◌, ◌++◌, IfOk, OnOk, length, map};
 ghost use Rattle.fin_ir.specs.declared.expression.IExpr.TheVariants as made;
-ghost use Rattle.fin_stage.specs.Staged as staged;
+ghost use Rattle.fin_tensor.specs.Building as building;
 ghost use Rattle.fin_read.specs.Steps.{assign_of};
 ghost use Rattle.fin_read.specs.Reads.{read_steps};
 ghost use Rattle.fin_read.specs.Values as spec;
@@ -148,7 +148,7 @@ pub fn format_of(alloc: Global, heads: &Heads<'_>, tensor: u8) -> Result<Format,
 }
 
 fn no_format(alloc: Global) -> Format
-    ensures { result ≡ staged.no_format }
+    ensures { result ≡ building.no_format }
 {
     Format {
         levels: Seq::new(alloc),

@@ -12,10 +12,10 @@ use Rattle.fin_ir.proofs.Builds.{builds}
 use Rattle.std.proofs.lemmas.List.{map-set, set-set, get_or-map, length-map, map-append, take_more}
 use Rattle.fin_base.specs.declared.reduce.Reduce.{Reduce}
 use Rattle.fin_tensor.specs.declared.storage.Storage.{Storage}
-use Rattle.fin_tensor.specs.Building.{Building, started, CanBuild}
+use Rattle.fin_tensor.specs.Building.{Building, no_format, started, CanBuild}
 use Rattle.fin_ir.specs.declared.layout.Layout.{Layout}
 use Rattle.fin_ir.specs.Frozen.{Frozen, frozen_of, canon, is_large}
-use Rattle.fin_ir.specs.Machine.{Tensor, nothing, building, stored, held, Effect, Machine, refused, set_tensor, with_first, coordinates, can_update, put, listed, changed_by, update_at, update, can_declare, format_at, shape_at, declare, cut_off, frozen_at, freeze, thawed, thawed_at, thaw, is_made, no_format}
+use Rattle.fin_ir.specs.Machine.{Tensor, nothing, building, stored, held, Effect, Machine, refused, set_tensor, with_first, coordinates, can_update, put, listed, changed_by, update_at, update, can_declare, format_at, shape_at, declare, cut_off, frozen_at, freeze, thawed, thawed_at, thaw, is_made}
 use Rattle.fin_ir.specs.Start.{given_if}
 use Rattle.fin_run.specs.declared.state.Held.{Held}
 use Rattle.fin_run.specs.declared.state.Held.TheVariants as h

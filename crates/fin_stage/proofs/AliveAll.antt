@@ -5,7 +5,7 @@ use Rattle.std.specs.Ordering.{int_eq}
 use Rattle.fin_base.specs.declared.reduce.Reduce.{Reduce}
 use Rattle.fin_base.specs.declared.refusal.Rule.{Rule}
 use Rattle.fin_tensor.specs.TensorFunction.{TensorFunction}
-use Rattle.fin_tensor.specs.Building.{Building, follows, updated}
+use Rattle.fin_tensor.specs.Building.{Building, unchanged, follows, updated}
 use Rattle.fin_base.specs.Words.{apply}
 use Rattle.fin_ast.specs.declared.header.Header.{Header}
 use Rattle.fin_ast.specs.declared.mode.Mode.{Mode}
@@ -93,7 +93,7 @@ module _ (hs : List Header) (w : Setting) (given_is : (t : ℕ) → is_some (mad
       let two = neither (is_input_at hs t) (not (is_read (now t))) (unbroken _ Rule.L5 line e) in
       let g = not_given hs w given_is t two.0 in
       let (format, f, x) = reads_made (now t) (made_at w.given t) (stage_at r.stages t) (not_not (is_read (now t)) two.1) g (l.agree t) in
-      let b : Building = record { format = format; function = f; last = None } in
+      let b : Building = unchanged format f in
       let done : Alive (turned now t Update) (thaw_at t (Frozen format f) r) = staged_lives hs w given_is now t Update (Built b) (work_of_storing format f) r lt (subst (λ (o : Option TensorFunction). Agrees Update o (Built b)) (sym g) tt) l in
       subst (λ (m : Bool). Alive (turned now t Update) (if m then thaw_at t (stage_at r.stages t) r else unalive r)) (sym (made_by hs w given_is t two.0))
       (subst (λ (y : Stage). Alive (turned now t Update) (thaw_at t y r)) (sym x) done)

@@ -16,7 +16,6 @@ use Rattle.fin_ast.specs.Scope.{outermost}
 use Rattle.fin_ast.specs.Shaped.{AreShaped, FitHeaders}
 use Rattle.fin_ast.specs.Accepted.{IsAccepted, inputs_among, HaveFormats, FitProgram}
 use Rattle.fin_ast.specs.Dense.{made_at, inputs_by_header, setting_of, unbound}
-use Rattle.fin_ast.proofs.Fitting.{found_fit}
 use Rattle.fin_life.specs.Passage.{ModeOf, after_all, breach_in, passages_of, life_of}
 use Rattle.fin_life.proofs.Behaviour.{life_is}
 use Rattle.fin_stage.specs.Stages.{Absent}
@@ -71,7 +70,7 @@ module _ (c : Checked) (inputs : List Storage) (accepted : IsAccepted c) (fit : 
   hs = c.program.headers
 
   headers_fit : FitHeaders hs c.dims
-  headers_fit = found_fit c.program accepted.shapes c.dims accepted.small accepted.extents
+  headers_fit = c.fits
 
   pub given_is : (t : ℕ) → is_some (made_at (setting_of c inputs).given t) ≡ is_input_at hs t
   given_is = given_in hs c.dims.shapes inputs headers_fit.shapes fit

@@ -4,7 +4,7 @@ use Rattle.std.specs.Prelude.{slice_set, slice_get, unwrap_or, option_map}
 use Rattle.fin_base.specs.Words.{apply}
 use Rattle.fin_base.specs.declared.reduce.Reduce.{Reduce}
 use Rattle.fin_tensor.specs.TensorFunction.{value_at}
-use Rattle.fin_tensor.specs.Building.{Building, started, follows, updated}
+use Rattle.fin_tensor.specs.Building.{Building, unchanged, no_format, started, follows, updated}
 use Rattle.fin_tensor.specs.Canon.{undecorated}
 use Rattle.fin_tensor.proofs.Cells.{keeps_cells, filled_has_cells}
 use Rattle.fin_ast.specs.declared.header.Header.{Header}
@@ -14,7 +14,7 @@ use Rattle.fin_ast.specs.Value.{Numbers, place, coordinates, value_of}
 use Rattle.fin_ast.specs.Dense.{Setting, shape_at}
 use Rattle.fin_ast.proofs.InBox.{in_box}
 use Rattle.fin_stage.specs.Stages.{Stage, Absent, Built, Frozen, stage_at, is_declared, kept}
-use Rattle.fin_stage.specs.Staged.{Run, worked, unalive, unsmall, unordered, with_value, tensors_of, can_read, has_small_indices, asked_to_read, asked_for_small, are_small, braced, is_made, declare, freeze_at, thaw_at, put_at, update_at, update, no_format, format_at, leaf, staging, stage_of, stage_all}
+use Rattle.fin_stage.specs.Staged.{Run, worked, unalive, unsmall, unordered, with_value, tensors_of, can_read, has_small_indices, asked_to_read, asked_for_small, are_small, braced, is_made, declare, freeze_at, thaw_at, put_at, update_at, update, format_at, leaf, staging, stage_of, stage_all}
 use Rattle.fin_stage.specs.Fitting.{FunctionFits, StageFits, StagesFit}
 use Rattle.fin_ast.proofs.Alike.{none, AreAll, act_is, act_all_is}
 use Rattle.fin_ast.specs.Actions.{Leaf, Declare, Freeze, Thaw, Update}
@@ -81,7 +81,7 @@ module _ (w : Setting) where
   thaw_fits : (tensor : ℕ) (x : Stage) (r : Run) → StageFits w tensor x → StagesFit w r.stages → StagesFit w (thaw_at tensor x r).stages
   thaw_fits tensor Absent r fx h = h
   thaw_fits tensor (Built b) r fx h = h
-  thaw_fits tensor (Frozen format f) r fx h = set_fits r.stages tensor (Built (record { format = format; function = f; last = None })) h (ap undecorated fx.0, fx.1)
+  thaw_fits tensor (Frozen format f) r fx h = set_fits r.stages tensor (Built (unchanged format f)) h (ap undecorated fx.0, fx.1)
 
   put_fits : (tensor : ℕ) (b : Building) (at : List ℤ) (o : Option (List ℕ)) (by : Reduce) (v : ℤ) (r : Run) → coordinates b.function.shape at ≡ o → StageFits w tensor (Built b) → StagesFit w r.stages → StagesFit w (put_at tensor b o by v r).stages
   put_fits tensor b at None by v r e fx h = h

@@ -18,3 +18,4 @@ pub mod OrderedAll
 pub mod OrderedWhole
 pub mod Ranges
 pub mod Soundness
+pub mod Trailing

@@ -4,7 +4,7 @@ use Rattle.std.specs.Prelude.{is_some, slice_set, slice_get, unwrap_or, option_m
 use Rattle.fin_base.specs.Words.{apply}
 use Rattle.fin_base.specs.declared.reduce.Reduce.{Reduce}
 use Rattle.std.proofs.lemmas.Bool.{cases_lt}
-use Rattle.fin_tensor.specs.Building.{Building, comes_behind, follows, updated, last_of}
+use Rattle.fin_tensor.specs.Building.{Building, no_format, comes_behind, follows, updated, last_of}
 use Rattle.fin_tensor.specs.Order.{ordered_levels}
 use Rattle.fin_tensor.specs.declared.format.Format.{Format}
 use Rattle.fin_tensor.specs.TensorFunction.{TensorFunction}
@@ -23,7 +23,7 @@ use Rattle.fin_life.specs.Passage.{ModeOf}
 use Rattle.fin_life.specs.Tracks.{Tracks}
 use Rattle.fin_life.specs.Tracks as track
 use Rattle.fin_stage.specs.Stages.{Stage, Absent, Built, Frozen, stage_at}
-use Rattle.fin_stage.specs.Staged.{Run, with_stage, unordered, put_at, update_at, format_at, no_format}
+use Rattle.fin_stage.specs.Staged.{Run, with_stage, unordered, put_at, update_at, format_at}
 use Rattle.fin_stage.specs.Fitting.{StageFits, StagesFit}
 use Rattle.fin_stage.proofs.Agreeing.{Agrees}
 use Rattle.fin_stage.proofs.Alive.{Living}

@@ -4,7 +4,7 @@ use Rattle.std.specs.Prelude.{slice_set, slice_get}
 use Rattle.fin_base.specs.Words.{apply}
 use Rattle.fin_base.specs.declared.reduce.Reduce.{Reduce}
 use Rattle.fin_tensor.specs.TensorFunction.{TensorFunction, filled}
-use Rattle.fin_tensor.specs.Building.{Building, follows, updated, started}
+use Rattle.fin_tensor.specs.Building.{Building, unchanged, follows, updated, started}
 use Rattle.fin_tensor.specs.Canon.{undecorated}
 use Rattle.fin_tensor.specs.declared.storage.Storage.{Storage}
 use Rattle.fin_ast.specs.declared.header.Header.{Header}
@@ -48,7 +48,7 @@ module _ (w : Setting) where
   thaw_same : (tensor : ℕ) (x : Stage) (r : Run) (t : State) → stage_at r.stages tensor ≡ x → Same r t → Good (thaw_at tensor x r) → Same (thaw_at tensor x r) t
   thaw_same tensor Absent r t e h g = absurd (let f : false ≡ true = g.alive in cc)
   thaw_same tensor (Built b) r t e h g = absurd (let f : false ≡ true = g.alive in cc)
-  thaw_same tensor (Frozen format f) r t e h g = h ∙ sym (same_function r.stages tensor (Built (record { format = format; function = f; last = None })) (ap function_in e))
+  thaw_same tensor (Frozen format f) r t e h g = h ∙ sym (same_function r.stages tensor (Built (unchanged format f)) (ap function_in e))
 
   thaw_if : (tensor : ℕ) (m : Bool) (r : Run) (t : State) → Same r t → Good (if m then thaw_at tensor (stage_at r.stages tensor) r else unalive r) → Same (if m then thaw_at tensor (stage_at r.stages tensor) r else unalive r) t
   thaw_if tensor true r t h g = thaw_same tensor (stage_at r.stages tensor) r t refl h g

@@ -25,7 +25,6 @@ use Rattle.fin_ast.specs.Scope.{Scope, is_among, is_named, are_named, stmt_step,
 use Rattle.fin_ast.specs.Value.{Numbers, number, place, coordinates, value_of}
 use Rattle.fin_ast.specs.Dense.{Setting, range_of, setting_of, unbound}
 use Rattle.fin_ast.proofs.Nodes.{of_block, of_loop, of_cond, of_bind, of_declare, of_freeze, of_thaw, of_update}
-use Rattle.fin_ast.proofs.Fitting.{found_fit}
 use Rattle.fin_stage.specs.Stages.{Stage, Absent, Built, Frozen, stage_at}
 use Rattle.fin_stage.specs.Staged.{Run, worked, with_stage, unalive, unordered, with_value, asked_to_read, asked_for_small, can_read, has_small_indices, tensors_of, is_small, are_small, braced, repeated, looped, is_made, declare, freeze, freeze_at, thaw, thaw_at, put_at, update_at, update, staging, stage_of, stage_all, before_all, staged}
 use Rattle.fin_ast.proofs.Induction.{AllOf, Cases, all_by_kind}
@@ -220,6 +219,5 @@ module _ (w : Setting) (ranged : AreRanged w.dims.ranges) where
 
 pub accepted_is_small : (c : Checked) (inputs : List Storage) → IsAccepted c → (staged c inputs).small ≡ true
 accepted_is_small c inputs a =
-    let fit = found_fit c.program a.shapes c.dims a.small a.extents in
     let none : NoneLarge (places_in c.program) = second_none (first_of large_in_header c.program.headers) (first_of large_in_place (places_in c.program)) a.extents.small in
-    (statements_small (setting_of c inputs) fit.ranges c.program.body (outermost c.program.headers) 0 [] c.program.named c.program.numbered (λ k e. absurd (let x : false ≡ true = e in cc)) none).1 (unbound c.dims) (before_all c.program.headers) (λ k e. absurd (let x : false ≡ true = e in cc)) refl
+    (statements_small (setting_of c inputs) c.fits.ranges c.program.body (outermost c.program.headers) 0 [] c.program.named c.program.numbered (λ k e. absurd (let x : false ≡ true = e in cc)) none).1 (unbound c.dims) (before_all c.program.headers) (λ k e. absurd (let x : false ≡ true = e in cc)) refl

@@ -26,7 +26,8 @@ use Rattle.fin_life.specs.Passage.{after_all, breach_in, passages_of}
 use Rattle.fin_life.specs.Trails.{order_of, no_tracks}
 use Rattle.fin_life.proofs.Around.{order_is}
 use Rattle.fin_stage.specs.Stages.{Stage, Absent, Built, Frozen, stage_at, function_in}
-use Rattle.fin_stage.specs.Staged.{before_all, staged, no_format}
+use Rattle.fin_tensor.specs.Building.{no_format}
+use Rattle.fin_stage.specs.Staged.{before_all, staged}
 use Rattle.fin_stage.specs.Fitting.{StageFits}
 use Rattle.fin_stage.specs.Sound.{AcceptedIsSound}
 use Rattle.fin_stage.proofs.Agreeing.{Agrees}

@@ -4,7 +4,7 @@ use Rattle.std.specs.Prelude.{slice_set, nat_eq}
 use Rattle.std.proofs.lemmas.Bool.Decides.{nat_tests}
 use Rattle.fin_base.specs.declared.reduce.Reduce.{Reduce}
 use Rattle.fin_base.specs.Words.{apply}
-use Rattle.fin_tensor.specs.Building.{Building, follows, updated, started}
+use Rattle.fin_tensor.specs.Building.{Building, unchanged, follows, updated, started}
 use Rattle.fin_tensor.specs.Canon.{undecorated}
 use Rattle.fin_ast.specs.declared.tree.Expr.{Expr}
 use Rattle.fin_ast.specs.declared.tree.Stmt.{Stmt}
@@ -97,7 +97,7 @@ module _ (w : Setting) (t : ℕ) where
   thaw_keeps : (tensor : ℕ) (x : Stage) (r : Run) → LastKept t r.stages (thaw_at tensor x r).stages
   thaw_keeps tensor Absent r = inl refl
   thaw_keeps tensor (Built b) r = inl refl
-  thaw_keeps tensor (Frozen format f) r = last_set t tensor (Built (record { format = format; function = f; last = None })) r.stages refl
+  thaw_keeps tensor (Frozen format f) r = last_set t tensor (Built (unchanged format f)) r.stages refl
 
   put_keeps : (tensor : ℕ) (b : Building) (o : Option (List ℕ)) (by : Reduce) (v : ℤ) (r : Run) → nat_eq tensor t ≡ false → LastKept t r.stages (put_at tensor b o by v r).stages
   put_keeps tensor b None by v r apart = inl refl

@@ -1,4 +1,5 @@
 pub mod Stages
 pub mod Staged
 pub mod Fitting
+pub mod Trailing
 pub mod Sound

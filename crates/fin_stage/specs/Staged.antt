@@ -1,12 +1,11 @@
 -- A run of a program by the stages of its tensors. It does what dense evaluation does; it keeps besides whether each
 -- statement was asked for what it can do, and the work, coordinate by coordinate.
-use Rattle.std.specs.Prelude.{ℕ, ◌+◌, ◌^◌, Bool, true, false, ◌&&◌, nat_le, unsigned_abs, if◌then◌else◌, ℤ, pos, List, [], map, Option, Some, None, is_some, is_none, slice_set, slice_get, unwrap_or, option_map}
+use Rattle.std.specs.Prelude.{ℕ, ◌+◌, ◌^◌, Bool, true, false, ◌&&◌, nat_le, unsigned_abs, if◌then◌else◌, ℤ, List, map, Option, Some, None, is_some, is_none, slice_set, slice_get, unwrap_or, option_map}
 use Rattle.std.specs.List.{list_all}
 use Rattle.fin_base.specs.Words.{apply}
 use Rattle.fin_base.specs.declared.reduce.Reduce.{Reduce}
 use Rattle.fin_tensor.specs.declared.format.Format.{Format}
-use Rattle.fin_tensor.specs.declared.format.Wrap.TheVariants.{Bare}
-use Rattle.fin_tensor.specs.Building.{Building, started, follows, updated}
+use Rattle.fin_tensor.specs.Building.{Building, unchanged, no_format, started, follows, updated}
 use Rattle.fin_tensor.specs.Canon.{undecorated}
 use Rattle.fin_tensor.specs.declared.storage.Storage.{Storage}
 use Rattle.fin_ast.specs.declared.header.Header.{Header}
@@ -124,9 +123,6 @@ repeated = acts.repeated turn
 abbrev pub looped : ℕ × ℕ → ℕ → Action → Action
 looped range var body vars r = acts.looped turn range var body vars (worked 1 r)
 
-abbrev pub no_format : Format
-no_format = record { levels = []; wrap = Bare; fill = pos 0 }
-
 abbrev pub format_at : Setting → ℕ → Format
 format_at w tensor = unwrap_or (option_map (λ (h : Header). h.format) (slice_get w.headers tensor)) no_format
 
@@ -151,7 +147,7 @@ freeze tensor r = freeze_at tensor (stage_at r.stages tensor) r
 abbrev pub thaw_at : ℕ → Stage → Run → Run
 thaw_at tensor Absent r = unalive r
 thaw_at tensor (Built b) r = unalive r
-thaw_at tensor (Frozen format f) r = worked (work_of_storing format f) (with_stage tensor (Built (record { format = format; function = f; last = None })) r)
+thaw_at tensor (Frozen format f) r = worked (work_of_storing format f) (with_stage tensor (Built (unchanged format f)) r)
 
 abbrev pub thaw : Setting → ℕ → Run → Run
 thaw w tensor r = if is_made w tensor then thaw_at tensor (stage_at r.stages tensor) r else unalive r

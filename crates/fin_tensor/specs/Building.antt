@@ -1,10 +1,11 @@
 -- A tensor that is being built: a function, with the last coordinates at which it was updated where its levels are filled in order.
-use Rattle.std.specs.Prelude.{ℕ, ◌^◌, ◌≤◌, Bool, true, false, not, nat_eq, if◌then◌else◌, ℤ, List, take, Option, Some, None}
+use Rattle.std.specs.Prelude.{ℕ, ◌^◌, ◌≤◌, Bool, true, false, not, nat_eq, if◌then◌else◌, ℤ, pos, List, [], take, Option, Some, None}
 use Rattle.std.specs.Cmp.Lexicographic.{slice_cmp}
 use Rattle.std.specs.Ordering.{nat_cmp}
 use Rattle.std.specs.declared.cmp.Ordering.{Ordering}
 use Rattle.std.specs.declared.cmp.Ordering.TheVariants.{Less, Equal, Greater}
 use Rattle.fin_tensor.specs.declared.format.Format.{Format}
+use Rattle.fin_tensor.specs.declared.format.Wrap.TheVariants.{Bare}
 use Rattle.fin_tensor.specs.TensorFunction.{TensorFunction, filled, changed}
 use Rattle.fin_tensor.specs.Placement.{IsPlaced}
 use Rattle.fin_tensor.specs.Lines.{IsShape}
@@ -15,6 +16,14 @@ pub record Building : Type 0 where
   pub format : Format
   pub function : TensorFunction
   pub last : Option (List ℕ)
+
+-- a function that nothing was updated of
+abbrev pub unchanged : Format → TensorFunction → Building
+unchanged format f = record { format = format; function = f; last = None }
+
+-- where there is no tensor
+abbrev pub no_format : Format
+no_format = record { levels = []; wrap = Bare; fill = pos 0 }
 
 -- a tensor of the format and shape can be built
 pub record CanBuild (format : Format) (shape : List ℕ) : Type 0 where

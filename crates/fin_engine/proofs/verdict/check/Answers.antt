@@ -1,9 +1,5 @@
 use Rattle.fin_engine.proofs.Fitted.{accepted_result, inputs_result}
-use Rattle.fin_engine.proofs.JobsFit.{accepted_fits}
 use Rattle.fin_engine.proofs.verdict.check.Goals as goal
-
-pub returns-clause-fits : goal.returns-clause-fits
-returns-clause-fits c = accepted_fits c.args.text.now c.check_text.result c.check_text.ensures.verdict
 
 pub returns-clause-accepted : goal.returns-clause-accepted
 returns-clause-accepted c = accepted_result c.args.text.now c.check_text.result c.check_text.ensures.verdict

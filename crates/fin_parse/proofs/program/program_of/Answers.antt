@@ -2,7 +2,7 @@ use Rattle.std.proofs.Common.{◌≡◌, ◌∙◌, ap, sym, map, length, [], ar
 use Rattle.fin_parse.specs.Elaboration.{statements_of, binders_in, elaboration_of}
 use Rattle.fin_parse.specs.HeaderNames.{tensors_of}
 use Rattle.fin_parse.specs.Leaves.{header_of}
-use Rattle.fin_parse.proofs.Programs.{binders_few, few_tensors, numbered, named, shallow}
+use Rattle.fin_parse.proofs.Programs.{binders_few, few_tensors, numbered, named, shallow, worded}
 use Rattle.fin_parse.proofs.program.program_of.Goals as goal
 
 pub statements_of-requires-clause-few : goal.statements_of-requires-clause-few
@@ -23,5 +23,6 @@ invariant_of-result c =
       distinct = c.in_ok-headers.ensures.distinct;
       numbered = numbered c.args.text.now c.args.trees.now c.args.tokens.now c.requires.accepted c.in_ok-headers.headers c.in_ok-headers.ensures.headers c.in_ok-body.body body;
       named = named c.args.text.now c.args.trees.now c.args.tokens.now c.requires.accepted c.in_ok-headers.headers c.in_ok-headers.ensures.headers c.in_ok-body.body body;
+      worded = worded c.args.text.now c.args.trees.now c.args.tokens.now c.requires.accepted c.in_ok-headers.headers c.in_ok-headers.ensures.headers c.in_ok-body.body body;
       shallow = shallow c.args.text.now c.args.trees.now c.args.tokens.now c.requires.accepted c.in_ok-headers.headers c.in_ok-headers.ensures.headers c.in_ok-body.body body;
     }

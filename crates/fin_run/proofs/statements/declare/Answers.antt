@@ -1,7 +1,7 @@
 use Rattle.std.proofs.Common.{ap, ◌∙◌, List, [], ℕ}
 use Rattle.fin_tensor.specs.declared.format.Format.{Format}
-use Rattle.fin_tensor.specs.Building.{started}
-use Rattle.fin_ir.specs.Machine.{no_format, format_at}
+use Rattle.fin_tensor.specs.Building.{no_format, started}
+use Rattle.fin_ir.specs.Machine.{format_at}
 use Rattle.fin_tensor.proofs.Walk.{got}
 use Rattle.fin_run.proofs.Steps.{declare_builds, declare_does}
 use Rattle.fin_run.proofs.statements.declare.Goals as goal
