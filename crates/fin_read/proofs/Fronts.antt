@@ -56,3 +56,8 @@ module _ (into : List Code) (tensor k : ℕ) (ls : List Level) (ns : List ℕ) (
     none (l ∷ ls') [] xs' h' = refl
     none (l ∷ ls') (n ∷ ns') [] h' = refl
     none (l ∷ ls') (n ∷ ns') (x ∷ xs') h' = absurd (omega (arith, h'))
+
+-- what stops where a list is used up
+pub ruleset counts_end = (count_ends, count_stops)
+
+pub ruleset levels_end = (no_level, no_extent, no_index)

@@ -39,23 +39,54 @@ abbrev pub sought : ℕ → ℕ → ℕ → IExpr → IExpr
 sought tensor k at x = Seek tensor k (fibre_begin tensor k at) (fibre_end tensor k at) x
 
 -- that place, where the key stands there
-abbrev pub found : ℕ → ℕ → ℕ → IExpr → IExpr
-found tensor k at x = Pick (Two op.Lt (Local (at + 1)) (fibre_end tensor k at)) (Pick (Two op.Eq (Cell tensor k table.Idx (Local (at + 1))) x) (Local (at + 1)) none) none
+abbrev pub if_here : ℕ → ℕ → ℕ → IExpr → IExpr
+if_here tensor k at x = Pick (Two op.Eq (Cell tensor k table.Idx (Local (at + 1))) x) (Local (at + 1)) none
 
--- the place of a coordinate in a block, given how far it is behind the block's first one
+-- the value where that place lies in the fibre
+abbrev pub if_within : ℕ → ℕ → ℕ → IExpr → IExpr
+if_within tensor k at value = Pick (Two op.Lt (Local (at + 1)) (fibre_end tensor k at)) value none
+
+abbrev pub found : ℕ → ℕ → ℕ → IExpr → IExpr
+found tensor k at x = if_within tensor k at (if_here tensor k at x)
+
+-- how far the index is behind the first coordinate of a block
+abbrev pub behind : ℕ → ℕ → ℕ → IExpr → IExpr
+behind tensor k at x = Two op.Sub x (Cell tensor k table.Start (Local at))
+
+abbrev pub block_length : ℕ → ℕ → ℕ → IExpr
+block_length tensor k at = Two op.Sub (fibre_end tensor k at) (fibre_begin tensor k at)
+
+-- the place of a coordinate in a block, given how far it is behind the first one: where it is no further than the block is long
+abbrev pub if_in_block : ℕ → ℕ → ℕ → IExpr
+if_in_block tensor k at = Pick (Two op.Lt (Local (at + 1)) (block_length tensor k at)) (Two op.Add (fibre_begin tensor k at) (Local (at + 1))) none
+
+-- and where it isn't before it
 abbrev pub in_block : ℕ → ℕ → ℕ → IExpr
-in_block tensor k at = Pick (Two op.Lt (Local (at + 1)) (Num (pos 0))) none (Pick (Two op.Lt (Local (at + 1)) (Two op.Sub (fibre_end tensor k at) (fibre_begin tensor k at))) (Two op.Add (fibre_begin tensor k at) (Local (at + 1))) none)
+in_block tensor k at = Pick (Two op.Lt (Local (at + 1)) (Num (pos 0))) none (if_in_block tensor k at)
 
 abbrev pub step_to : ℕ → IExpr → Step
 step_to local value = record { local = local; value = value }
 
+-- to the value, where there is a position
+abbrev pub placed_step : ℕ → IExpr → Step
+placed_step at value = step_to at (where_placed at value)
+
+abbrev pub sought_step : ℕ → ℕ → ℕ → IExpr → Step
+sought_step tensor k at x = step_to (at + 1) (sought tensor k at x)
+
+abbrev pub behind_step : ℕ → ℕ → ℕ → IExpr → Step
+behind_step tensor k at x = step_to (at + 1) (behind tensor k at x)
+
+abbrev pub dense_step : ℕ → ℕ → IExpr → Step
+dense_step n at x = placed_step at (Two op.Add (Two op.Mul (Local at) (Num (pos n))) x)
+
 -- from the position in level k to that below it at an index
 abbrev pub level_steps : ℕ → ℕ → Level → ℕ → IExpr → ℕ → List Step
-level_steps tensor k level.Dense n x at = step_to at (where_placed at (Two op.Add (Two op.Mul (Local at) (Num (pos n))) x)) ∷ []
-level_steps tensor k level.List n x at = step_to (at + 1) (sought tensor k at x) ∷ step_to at (where_placed at (found tensor k at x)) ∷ []
-level_steps tensor k level.Dict n x at = step_to (at + 1) (sought tensor k at x) ∷ step_to at (where_placed at (found tensor k at x)) ∷ []
-level_steps tensor k level.Runs n x at = step_to (at + 1) (sought tensor k at x) ∷ step_to at (where_placed at (Local (at + 1))) ∷ []
-level_steps tensor k level.Band n x at = step_to (at + 1) (Two op.Sub x (Cell tensor k table.Start (Local at))) ∷ step_to at (where_placed at (in_block tensor k at)) ∷ []
+level_steps tensor k level.Dense n x at = dense_step n at x ∷ []
+level_steps tensor k level.List n x at = sought_step tensor k at x ∷ placed_step at (found tensor k at x) ∷ []
+level_steps tensor k level.Dict n x at = sought_step tensor k at x ∷ placed_step at (found tensor k at x) ∷ []
+level_steps tensor k level.Runs n x at = sought_step tensor k at x ∷ placed_step at (Local (at + 1)) ∷ []
+level_steps tensor k level.Band n x at = behind_step tensor k at x ∷ placed_step at (in_block tensor k at) ∷ []
 
 -- the levels from k on
 abbrev pub levels_steps : ℕ → ℕ → List Level → List ℕ → List IExpr → ℕ → List Step

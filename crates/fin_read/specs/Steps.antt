@@ -1,5 +1,5 @@
 -- Assignments of locals, one after another.
-use Rattle.std.specs.Prelude.{◌≡◌, ℕ, ◌<◌, List, [], ◌∷◌, slice_index_or, slice_set, ℤ, pos}
+use Rattle.std.specs.Prelude.{◌≡◌, ℕ, ◌<◌, List, [], ◌∷◌, ◌++◌, map, slice_index_or, slice_set, ℤ, pos}
 use Rattle.fin_ir.specs.declared.expression.IExpr.{IExpr}
 use Rattle.fin_ir.specs.declared.code.Code.{Code}
 use Rattle.fin_ir.specs.declared.code.Code.TheVariants.{Assign}
@@ -17,6 +17,14 @@ stepped ts (s ∷ rest) ls = stepped ts rest (slice_set ls s.local (value_of s.v
 
 abbrev pub assign_of : Step → Code
 assign_of s = Assign s.local s.value
+
+-- the code goes on by these steps
+abbrev pub Appends : List Code → List Code → List Step → Type 0
+Appends old new steps = new ≡ old ++ map assign_of steps
+
+-- the code goes on by one step
+abbrev pub AppendsOne : List Code → List Code → Step → Type 0
+AppendsOne old new step = new ≡ old ++ assign_of step ∷ []
 
 -- two lists of locals are the same below a number
 abbrev pub Agree : ℕ → List ℤ → List ℤ → Type 0

@@ -47,6 +47,10 @@ var_code (Some var) = Local var
 abbrev pub index_code : Index → IExpr
 index_code i = Two op.Add (Two op.Add (var_code i.first) (var_code i.second)) (Num i.offset)
 
+-- an access, whose value is left in a local
+abbrev pub access_steps : Heads → ℕ → List Index → ℕ → List Step
+access_steps h tensor at local = let f = format_of h tensor in read_steps tensor f.levels (shape_of h tensor) f.fill (map index_code at) local
+
 abbrev pub two_after : Op → Lowered → Lowered → Lowered
 two_after o a b = record { steps = a.steps ++ b.steps; value = Two o a.value b.value; next = b.next }
 
@@ -54,11 +58,7 @@ two_after o a b = record { steps = a.steps ++ b.steps; value = Two o a.value b.v
 abbrev pub lower_expr_step : Heads → Expr-F (ℕ → Lowered) → ℕ → Lowered
 lower_expr_step h (Expr-F.Num n) next = record { steps = []; value = Num n; next = next }
 lower_expr_step h (Expr-F.Var var line) next = record { steps = []; value = Local var; next = next }
-lower_expr_step h (Expr-F.Read tensor at line) next = record {
-  steps = read_steps tensor (format_of h tensor).levels (shape_of h tensor) (format_of h tensor).fill (map index_code at) next;
-  value = Local next;
-  next = next + 1;
-}
+lower_expr_step h (Expr-F.Read tensor at line) next = record { steps = access_steps h tensor at next; value = Local next; next = next + 1 }
 lower_expr_step h (Expr-F.Neg inner) next = record { steps = (inner next).steps; value = Neg (inner next).value; next = (inner next).next }
 lower_expr_step h (Expr-F.Two o left right) next = two_after o (left next) (right (left next).next)
 

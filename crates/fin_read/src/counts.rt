@@ -24,7 +24,7 @@ pub fn count_expr(
 }
 
 // The positions below all levels from that one on.
-#[tactic(auto, using(crate::proofs::Fronts::small_part, crate::proofs::Fronts::count_ends, crate::proofs::Fronts::count_stops))]
+#[tactic(auto, using(crate::proofs::Fronts::small_part, crate::proofs::Fronts::counts_end))]
 fn count_from(
     alloc: Global,
     tensor: u8,

@@ -1,8 +1,8 @@
 //! The code of an access.
-ghost use Rattle.std.specs.Prelude.{◌≡◌, ◌+◌, ◌≤◌, ◌<◌, ◌^◌, ◌++◌, [], ◌∷◌, IfOk, OnOk, length, map, pos};
+ghost use Rattle.std.specs.Prelude.{◌≡◌, ◌+◌, ◌≤◌, ◌<◌, ◌^◌, IfOk, OnOk, length, pos};
 ghost use Rattle.fin_tensor.specs.Levels.{AreSmall};
 ghost use Rattle.fin_ir.specs.declared.expression.IExpr.TheVariants as made;
-ghost use Rattle.fin_read.specs.Steps.{assign_of};
+ghost use Rattle.fin_read.specs.Steps.{Appends, AppendsOne};
 ghost use Rattle.fin_read.specs.Reads as spec;
 
 use crate::parts::{cell, pick, push, seek, two, val};
@@ -14,39 +14,14 @@ use std::alloc::{AllocError, Global};
 
 /// A level of a tensor, and the local that has the position in it; the one behind is free for a step.
 #[derive(Clone, Copy)]
-struct Place {
-    tensor: u8,
-    level: u8,
-    at: u32,
+pub(crate) struct Place {
+    pub tensor: u8,
+    pub level: u8,
+    pub at: u32,
 }
 
-/// Appends the code of an access, which leaves its value in the local `at`.
-pub(crate) fn push_read(
-    alloc: Global,
-    into: &mut Items<Code>,
-    tensor: u8,
-    levels: &[Level],
-    shape: &[u64],
-    fill: i64,
-    xs: &[IExpr],
-    at: u32,
-) -> Result<(), AllocError>
-    requires small { AreSmall shape.now }
-    requires few { length levels.now ≤ 8 }
-    requires room { at + 1 < 2 ^ 32 }
-    ensures { OnOk result (into.new ≡ into.old ++ map assign_of (spec.read_steps tensor levels.now shape.now fill xs.now at)) }
-{
-    push_first(alloc, into, shape, xs, at)?;
-    let place = Place {
-        tensor,
-        level: 0,
-        at,
-    };
-    push_levels(alloc, into, place, levels, shape, xs)?;
-    push_last(alloc, into, tensor, fill, at)
-}
-
-fn push_first(
+// Appends the step to the first position, or to none outside the box.
+pub(crate) fn push_first(
     alloc: Global,
     into: &mut Items<Code>,
     shape: &[u64],
@@ -54,21 +29,22 @@ fn push_first(
     at: u32,
 ) -> Result<(), AllocError>
     requires small { AreSmall shape.now }
-    ensures { OnOk result (into.new ≡ into.old ++ assign_of (spec.first_step shape.now xs.now at) ∷ []) }
+    ensures { OnOk result (AppendsOne into.old into.new (spec.first_step shape.now xs.now at)) }
 {
     let within = in_box(alloc, shape, xs)?;
     let first = pick(alloc, within, IExpr::Num(0), none())?;
     push(into, at, first)
 }
 
-fn push_last(
+// Appends the step to the value at the position, or to the fill.
+pub(crate) fn push_last(
     alloc: Global,
     into: &mut Items<Code>,
     tensor: u8,
     fill: i64,
     at: u32,
 ) -> Result<(), AllocError>
-    ensures { OnOk result (into.new ≡ into.old ++ assign_of (spec.last_step tensor fill at) ∷ []) }
+    ensures { OnOk result (AppendsOne into.old into.new (spec.last_step tensor fill at)) }
 {
     let is_none = below(alloc, IExpr::Local(at), 0)?;
     let stored = val(alloc, tensor, IExpr::Local(at))?;
@@ -76,9 +52,9 @@ fn push_last(
     push(into, at, last)
 }
 
-// Appends the steps through these levels.
-#[tactic(auto, using(crate::proofs::Fronts::small_part, crate::proofs::Fronts::no_level, crate::proofs::Fronts::no_extent, crate::proofs::Fronts::no_index))]
-fn push_levels(
+/// Appends the steps through these levels.
+#[tactic(auto, using(crate::proofs::Fronts::small_part, crate::proofs::Fronts::levels_end))]
+pub(crate) fn push_levels(
     alloc: Global,
     into: &mut Items<Code>,
     place: Place,
@@ -89,7 +65,8 @@ fn push_levels(
     requires small { AreSmall shape.now }
     requires few { place.level + length levels.now ≤ 8 }
     requires room { place.at + 1 < 2 ^ 32 }
-    ensures { OnOk result (into.new ≡ into.old ++ map assign_of (spec.levels_steps place.tensor place.level levels.now shape.now xs.now place.at)) }
+    ensures { OnOk result (Appends into.old into.new
+        (spec.levels_steps place.tensor place.level levels.now shape.now xs.now place.at)) }
 {
     if levels.is_empty() || shape.is_empty() || xs.is_empty() {
         return Ok(());
@@ -113,7 +90,8 @@ fn push_level(
 ) -> Result<(), AllocError>
     requires small { n ≤ 2 ^ 40 }
     requires room { place.at + 1 < 2 ^ 32 }
-    ensures { OnOk result (into.new ≡ into.old ++ map assign_of (spec.level_steps place.tensor place.level kind n x.now place.at)) }
+    ensures { OnOk result (Appends into.old into.new
+        (spec.level_steps place.tensor place.level kind n x.now place.at)) }
 {
     match kind {
         Level::Dense => push_dense(alloc, into, place, n, x),
@@ -140,7 +118,7 @@ fn push_dense(
     x: &IExpr,
 ) -> Result<(), AllocError>
     requires small { n ≤ 2 ^ 40 }
-    ensures { OnOk result (into.new ≡ into.old ++ map assign_of (spec.level_steps place.tensor place.level Level.Dense n x.now place.at)) }
+    ensures { OnOk result (AppendsOne into.old into.new (spec.dense_step n place.at x.now)) }
 {
     let before = two(alloc, Op::Mul, IExpr::Local(place.at), IExpr::Num(n as i64))?;
     let x = x.copy(alloc)?;
@@ -156,7 +134,7 @@ fn push_sought(
     x: &IExpr,
 ) -> Result<(), AllocError>
     requires room { place.at + 1 < 2 ^ 32 }
-    ensures { OnOk result (into.new ≡ into.old ++ assign_of (spec.step_to (place.at + 1) (spec.sought place.tensor place.level place.at x.now)) ∷ []) }
+    ensures { OnOk result (AppendsOne into.old into.new (spec.sought_step place.tensor place.level place.at x.now)) }
 {
     let from = fibre_begin(alloc, place)?;
     let to = fibre_end(alloc, place)?;
@@ -173,7 +151,8 @@ fn push_found(
     x: &IExpr,
 ) -> Result<(), AllocError>
     requires room { place.at + 1 < 2 ^ 32 }
-    ensures { OnOk result (into.new ≡ into.old ++ assign_of (spec.step_to place.at (spec.where_placed place.at (spec.found place.tensor place.level place.at x.now))) ∷ []) }
+    ensures { OnOk result (AppendsOne into.old into.new
+        (spec.placed_step place.at (spec.found place.tensor place.level place.at x.now))) }
 {
     let here = if_here(alloc, place, x)?;
     let found = if_within(alloc, place, here)?;
@@ -182,7 +161,7 @@ fn push_found(
 
 fn if_here(alloc: Global, place: Place, x: &IExpr) -> Result<IExpr, AllocError>
     requires room { place.at + 1 < 2 ^ 32 }
-    ensures { IfOk result (λ e. e ≡ made.Pick (made.Two Op.Eq (made.Cell place.tensor place.level Table.Idx (made.Local (place.at + 1))) x.now) (made.Local (place.at + 1)) spec.none) }
+    ensures { IfOk result (λ e. e ≡ spec.if_here place.tensor place.level place.at x.now) }
 {
     let sought = IExpr::Local(place.at + 1);
     let stored = cell(alloc, place.tensor, place.level, Table::Idx, sought)?;
@@ -193,7 +172,7 @@ fn if_here(alloc: Global, place: Place, x: &IExpr) -> Result<IExpr, AllocError>
 
 fn if_within(alloc: Global, place: Place, value: IExpr) -> Result<IExpr, AllocError>
     requires room { place.at + 1 < 2 ^ 32 }
-    ensures { IfOk result (λ e. e ≡ made.Pick (made.Two Op.Lt (made.Local (place.at + 1)) (spec.fibre_end place.tensor place.level place.at)) value spec.none) }
+    ensures { IfOk result (λ e. e ≡ spec.if_within place.tensor place.level place.at value) }
 {
     let end = fibre_end(alloc, place)?;
     let test = two(alloc, Op::Lt, IExpr::Local(place.at + 1), end)?;
@@ -208,7 +187,7 @@ fn push_behind(
     x: &IExpr,
 ) -> Result<(), AllocError>
     requires room { place.at + 1 < 2 ^ 32 }
-    ensures { OnOk result (into.new ≡ into.old ++ assign_of (spec.step_to (place.at + 1) (made.Two Op.Sub x.now (made.Cell place.tensor place.level Table.Start (made.Local place.at)))) ∷ []) }
+    ensures { OnOk result (AppendsOne into.old into.new (spec.behind_step place.tensor place.level place.at x.now)) }
 {
     let start = cell(
         alloc,
@@ -225,7 +204,8 @@ fn push_behind(
 // Appends the step to the place in the block.
 fn push_in_block(alloc: Global, into: &mut Items<Code>, place: Place) -> Result<(), AllocError>
     requires room { place.at + 1 < 2 ^ 32 }
-    ensures { OnOk result (into.new ≡ into.old ++ assign_of (spec.step_to place.at (spec.where_placed place.at (spec.in_block place.tensor place.level place.at))) ∷ []) }
+    ensures { OnOk result (AppendsOne into.old into.new
+        (spec.placed_step place.at (spec.in_block place.tensor place.level place.at))) }
 {
     let before = below(alloc, IExpr::Local(place.at + 1), 0)?;
     let there = if_in_block(alloc, place)?;
@@ -235,7 +215,7 @@ fn push_in_block(alloc: Global, into: &mut Items<Code>, place: Place) -> Result<
 
 fn if_in_block(alloc: Global, place: Place) -> Result<IExpr, AllocError>
     requires room { place.at + 1 < 2 ^ 32 }
-    ensures { IfOk result (λ e. e ≡ made.Pick (made.Two Op.Lt (made.Local (place.at + 1)) (made.Two Op.Sub (spec.fibre_end place.tensor place.level place.at) (spec.fibre_begin place.tensor place.level place.at))) (made.Two Op.Add (spec.fibre_begin place.tensor place.level place.at) (made.Local (place.at + 1))) spec.none) }
+    ensures { IfOk result (λ e. e ≡ spec.if_in_block place.tensor place.level place.at) }
 {
     let length = length_of_block(alloc, place)?;
     let test = two(alloc, Op::Lt, IExpr::Local(place.at + 1), length)?;
@@ -245,7 +225,7 @@ fn if_in_block(alloc: Global, place: Place) -> Result<IExpr, AllocError>
 }
 
 fn length_of_block(alloc: Global, place: Place) -> Result<IExpr, AllocError>
-    ensures { IfOk result (λ e. e ≡ made.Two Op.Sub (spec.fibre_end place.tensor place.level place.at) (spec.fibre_begin place.tensor place.level place.at)) }
+    ensures { IfOk result (λ e. e ≡ spec.block_length place.tensor place.level place.at) }
 {
     let end = fibre_end(alloc, place)?;
     let begin = fibre_begin(alloc, place)?;
@@ -259,7 +239,7 @@ fn push_placed(
     place: Place,
     value: IExpr,
 ) -> Result<(), AllocError>
-    ensures { OnOk result (into.new ≡ into.old ++ assign_of (spec.step_to place.at (spec.where_placed place.at value)) ∷ []) }
+    ensures { OnOk result (AppendsOne into.old into.new (spec.placed_step place.at value)) }
 {
     let is_none = below(alloc, IExpr::Local(place.at), 0)?;
     let placed = pick(alloc, is_none, none(), value)?;

@@ -1,25 +1,41 @@
 //! The code of expressions.
 ghost use Rattle.std.specs.Prelude.{◌≡◌, ◌+◌, ◌≤◌, ◌<◌, ◌^◌, ◌++◌, IfOk, OnOk, length, map};
+ghost use Rattle.fin_tensor.specs.Levels.{AreSmall};
 ghost use Rattle.fin_ir.specs.declared.expression.IExpr.TheVariants as made;
 ghost use Rattle.fin_tensor.specs.Building as building;
-ghost use Rattle.fin_read.specs.Steps.{assign_of};
-ghost use Rattle.fin_read.specs.Reads.{read_steps};
+ghost use Rattle.fin_read.specs.Steps.{Appends};
 ghost use Rattle.fin_read.specs.Values as spec;
 
 use crate::parts::{neg, two};
-use crate::reads::push_read;
+use crate::reads::{Place, push_first, push_last, push_levels};
 use fin_ast::{Expr, Header, Index};
 use fin_base::Op;
 use fin_ir::{Code, IExpr};
 use fin_tensor::{Duplicate, Format, Nums, Seq, Wrap};
 use sqlite_items::Items;
 use std::alloc::{AllocError, Global};
+use std::marker::Model;
 
-/// The headers of a program, and the shape of each tensor.
-#[derive(Clone, Copy)]
+/// The headers of a program, and the shape of each tensor. No extent is over 2^40.
+#[derive(Drop)]
 pub struct Heads<'a> {
     pub headers: &'a [Header],
     pub shapes: &'a [Nums],
+}
+
+impl<'a> Model for Heads<'a> {
+    ghost use Rattle.fin_read.specs.Values.{Heads as Seen, AreShapes};
+
+    ghost Value = { Seen };
+
+    ghost use Rattle.std.specs.Coded.{codes};
+    ghost use Rattle.fin_ast.specs.contracts.header.Header as header;
+
+    ghost coded = { Prim.hlevel (codes, header.the_row.coded) };
+
+    ghost view = { λ h. record { headers = h.headers.now; shapes = h.shapes.now } };
+
+    ghost invariant = { λ h. AreShapes h.shapes.now };
 }
 
 /// An expression over what its accesses leave, and the first local that is free behind them.
@@ -37,10 +53,9 @@ pub fn push_value(
     e: &Expr,
     next: u32,
 ) -> Result<Value, AllocError>
-    requires shapes { spec.AreShapes heads.now.shapes.now }
-    ensures value { IfOk result (λ v. v.expr ≡ (spec.value_code (spec.heads_of heads.now.headers.now heads.now.shapes.now) e.now next).value) }
-    ensures next { IfOk result (λ v. v.next ≡ (spec.value_code (spec.heads_of heads.now.headers.now heads.now.shapes.now) e.now next).next) }
-    ensures code { OnOk result (into.new ≡ into.old ++ spec.prelude (spec.value_code (spec.heads_of heads.now.headers.now heads.now.shapes.now) e.now next)) }
+    ensures value { IfOk result (λ v. v.expr ≡ (spec.value_code heads.now e.now next).value) }
+    ensures next { IfOk result (λ v. v.next ≡ (spec.value_code heads.now e.now next).next) }
+    ensures code { OnOk result (into.new ≡ into.old ++ spec.prelude (spec.value_code heads.now e.now next)) }
 {
     match e {
         Expr::Num(value) => Ok(valued(IExpr::Num(*value), next)),
@@ -71,7 +86,8 @@ fn valued(expr: IExpr, next: u32) -> Value
     Value { expr, next }
 }
 
-// There is no memory for as many locals as a `u32` can't count.
+// Appends the code of an access, which leaves its value in the local `next`. There is no memory for as many locals as a
+// `u32` can't count.
 fn push_access(
     alloc: Global,
     into: &mut Items<Code>,
@@ -80,30 +96,32 @@ fn push_access(
     at: &[Index],
     next: u32,
 ) -> Result<Value, AllocError>
-    requires shapes { spec.AreShapes heads.now.shapes.now }
     ensures value { IfOk result (λ v. v.expr ≡ made.Local next) }
     ensures next { IfOk result (λ v. v.next ≡ next + 1) }
-    ensures code { OnOk result (into.new ≡ into.old ++ map assign_of (read_steps tensor (spec.format_of (spec.heads_of heads.now.headers.now heads.now.shapes.now) tensor).levels (spec.shape_of (spec.heads_of heads.now.headers.now heads.now.shapes.now) tensor) (spec.format_of (spec.heads_of heads.now.headers.now heads.now.shapes.now) tensor).fill (map spec.index_code at.now) next)) }
+    ensures code { OnOk result (Appends into.old into.new (spec.access_steps heads.now tensor at.now next)) }
 {
     if next == 4294967295 {
         return Err(AllocError);
     }
     let format = format_of(alloc, heads, tensor)?;
+    let shape = shape_of(heads, tensor);
     let xs = index_codes(alloc, at)?;
-    push_read(
+    let place = Place {
+        tensor,
+        level: 0,
+        at: next,
+    };
+    push_first(alloc, into, shape, xs.as_slice(), next)?;
+    push_levels(
         alloc,
         into,
-        tensor,
+        place,
         format.levels.as_slice(),
-        shape_of(heads, tensor),
-        format.fill,
+        shape,
         xs.as_slice(),
-        next,
     )?;
-    Ok(Value {
-        expr: IExpr::Local(next),
-        next: next + 1,
-    })
+    push_last(alloc, into, tensor, format.fill, next)?;
+    Ok(valued(IExpr::Local(next), next + 1))
 }
 
 /// The code of each index.
@@ -138,7 +156,7 @@ fn var_code(var: Option<u32>) -> IExpr
 
 /// A copy of a tensor's format.
 pub fn format_of(alloc: Global, heads: &Heads<'_>, tensor: u8) -> Result<Format, AllocError>
-    ensures format { IfOk result (λ f. f ≡ spec.format_of (spec.heads_of heads.now.headers.now heads.now.shapes.now) tensor) }
+    ensures format { IfOk result (λ f. f ≡ spec.format_of heads.now tensor) }
     ensures few { IfOk result (λ f. length f.levels ≤ 8) }
 {
     match heads.headers.get(tensor as usize) {
@@ -159,7 +177,8 @@ fn no_format(alloc: Global) -> Format
 
 /// The shape of a tensor.
 pub fn shape_of<'a>(heads: &Heads<'a>, tensor: u8) -> &'a [u64]
-    ensures { result.now ≡ spec.shape_of (spec.heads_of heads.now.headers.now heads.now.shapes.now) tensor }
+    ensures shape { result.now ≡ spec.shape_of heads.now tensor }
+    ensures small { AreSmall result.now }
 {
     match heads.shapes.get(tensor as usize) {
         Some(shape) => shape.as_slice(),
