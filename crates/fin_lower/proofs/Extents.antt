@@ -4,7 +4,7 @@ use Rattle.fin_tensor.specs.Levels.{AreSmall}
 use Rattle.fin_ast.specs.declared.header.Header.{Header}
 use Rattle.fin_ast.specs.declared.checked.Dims.{Dims}
 use Rattle.fin_ast.specs.Shaped.{AreShaped, FitHeaders}
-use Rattle.fin_read.specs.Values.{AreShapes}
+use Rattle.fin_read.specs.Values.{AreShapes, heads_of}
 use Rattle.fin_lower.specs.Built.{AreBuilt}
 
 none_small : AreSmall []
@@ -17,7 +17,7 @@ small_at (h ∷ hs) [] a t = absurd a
 small_at (h ∷ hs) (s ∷ shapes) a zero = a.0.shape_is.small
 small_at (h ∷ hs) (s ∷ shapes) a (suc t) = small_at hs shapes a.1 t
 
-built_at : (hs : List Header) (shapes : List (List ℕ)) → AreShaped hs shapes → AreBuilt hs shapes
+built_at : (hs : List Header) (shapes : List (List ℕ)) → AreShaped hs shapes → AreBuilt (heads_of hs shapes)
 built_at [] [] a t = omega arith
 built_at [] (s ∷ shapes) a t = absurd a
 built_at (h ∷ hs) [] a t = absurd a
@@ -27,5 +27,5 @@ built_at (h ∷ hs) (s ∷ shapes) a (suc t) = built_at hs shapes a.1 t
 pub are_shapes : (hs : List Header) (dims : Dims) → FitHeaders hs dims → AreShapes dims.shapes
 are_shapes hs dims fit = small_at hs dims.shapes fit.shapes
 
-pub are_built : (hs : List Header) (dims : Dims) → FitHeaders hs dims → AreBuilt hs dims.shapes
+pub are_built : (hs : List Header) (dims : Dims) → FitHeaders hs dims → AreBuilt (heads_of hs dims.shapes)
 are_built hs dims fit = built_at hs dims.shapes fit.shapes

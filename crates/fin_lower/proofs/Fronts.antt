@@ -40,3 +40,6 @@ pub size_ends : (ls : List Level) (ns : List ℕ) → 1 ≤ dense_size ls ns
 size_ends [] ns = omega arith
 size_ends (l ∷ ls) [] = omega arith
 size_ends (l ∷ ls) (n ∷ ns) = let more : dense_size ls ns ≤ (if is_dense l then max n 1 else 1) * dense_size ls ns = most_one (is_dense l) n (dense_size ls ns) in let rest : 1 ≤ dense_size ls ns = size_ends ls ns in omega (arith, more, rest)
+
+-- what a front of dense levels is where a list is used up, and its bounds
+pub ruleset fronts = (size_part, front_ends, front_stops, size_ends)

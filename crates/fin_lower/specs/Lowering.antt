@@ -42,8 +42,11 @@ abbrev pub thaw_code : Heads → ℕ → Code
 thaw_code h tensor = Seq (charge_of 1 ∷ Charge (count_of h tensor) ∷ Thaw tensor ∷ [])
 
 -- outside the box there is nothing to update
+abbrev pub update_after : Heads → ℕ → List Index → Reduce → IExpr → List Code
+update_after h tensor at by value = let xs = map index_code at in When (in_box (shape_of h tensor) xs) (Update tensor xs by value) ∷ charge_of 1 ∷ []
+
 abbrev pub update_code : Heads → ℕ → List Index → Reduce → Lowered → Code
-update_code h tensor at by v = Seq (prelude v ++ When (in_box (shape_of h tensor) (map index_code at)) (Update tensor (map index_code at) by v.value) ∷ charge_of 1 ∷ [])
+update_code h tensor at by v = Seq (prelude v ++ update_after h tensor at by v.value)
 
 -- ---- statements with bodies
 

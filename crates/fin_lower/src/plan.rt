@@ -3,7 +3,7 @@ ghost use Rattle.std.specs.Prelude.{◌≡◌, IfOk, OnOk, length, map};
 ghost use Rattle.fin_ast.specs.declared.header.Header.{Header};
 ghost use Rattle.fin_lower.specs.Plans as spec;
 
-use crate::statements::{Sides, push_all};
+use crate::statements::{Site, push_all};
 use fin_ast::{Checked, Header, Kind};
 use fin_ir::{Code, Layout, Plan};
 use fin_read::Heads;
@@ -39,20 +39,21 @@ fn code_of(
     ensures code { IfOk result (λ c. c ≡ spec.code_of checked.now) }
     ensures locals { OnOk result (locals.new ≡ (spec.layout_of checked.now).locals) }
 {
-    let sides = Sides {
-        heads: Heads {
-            headers: checked.program.headers.as_slice(),
-            shapes: checked.dims.shapes.as_slice(),
-        },
+    let heads = Heads {
+        headers: checked.program.headers.as_slice(),
+        shapes: checked.dims.shapes.as_slice(),
+    };
+    let site = Site {
+        heads: &heads,
         ranges: checked.dims.ranges.as_slice(),
+        next: variables,
     };
     let mut codes = Items::new(alloc);
     push_all(
         alloc,
         checked.program.body.as_slice(),
         &mut codes,
-        &sides,
-        variables,
+        &site,
         locals,
     )?;
     Ok(Code::Seq(codes))

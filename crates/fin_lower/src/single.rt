@@ -1,15 +1,11 @@
 //! The code of statements without bodies.
-ghost use Rattle.std.specs.Prelude.{◌≡◌, ◌≤◌, ◌^◌, ◌++◌, [], ◌∷◌, IfOk, OnOk, map};
+ghost use Rattle.std.specs.Prelude.{◌≡◌, ◌≤◌, ◌^◌, ◌++◌, [], ◌∷◌, IfOk, OnOk};
 ghost use Rattle.fin_tensor.specs.Extents.{dense_size};
-ghost use Rattle.fin_tensor.specs.Levels.{AreSmall};
 ghost use Rattle.fin_stage.specs.Stages as stage;
-ghost use Rattle.fin_ir.specs.declared.code.Code.TheVariants as made;
-ghost use Rattle.fin_read.specs.Reads as reads;
-ghost use Rattle.fin_read.specs.Values as values;
-ghost use Rattle.fin_lower.specs.Built as built;
+ghost use Rattle.fin_lower.specs.Built.{AreBuilt};
 ghost use Rattle.fin_lower.specs.Lowering as spec;
 
-use fin_ast::Index;
+use fin_ast::{Expr, Index};
 use fin_base::Reduce;
 use fin_ir::{Code, IExpr};
 use fin_read::{Heads, count_expr, format_of, in_box, index_codes, shape_of};
@@ -26,8 +22,8 @@ pub(crate) fn push_charge(into: &mut Items<Code>) -> Result<(), AllocError>
 
 /// The code of a declaration.
 pub(crate) fn declare_code(alloc: Global, heads: &Heads<'_>, tensor: u8) -> Result<Code, AllocError>
-    requires built { built.AreBuilt heads.now.headers.now heads.now.shapes.now }
-    ensures { IfOk result (λ c. c ≡ spec.declare_code (values.heads_of heads.now.headers.now heads.now.shapes.now) tensor) }
+    requires built { AreBuilt heads.now }
+    ensures { IfOk result (λ c. c ≡ spec.declare_code heads.now tensor) }
 {
     let format = format_of(alloc, heads, tensor)?;
     let front = dense_front(format.levels.as_slice(), shape_of(heads, tensor));
@@ -38,7 +34,7 @@ pub(crate) fn declare_code(alloc: Global, heads: &Heads<'_>, tensor: u8) -> Resu
 }
 
 // The product of the dense extents before the first other level.
-#[tactic(auto, using(crate::proofs::Fronts::size_part, crate::proofs::Fronts::front_ends, crate::proofs::Fronts::front_stops, crate::proofs::Fronts::size_ends))]
+#[tactic(auto, using(crate::proofs::Fronts::fronts))]
 fn dense_front(levels: &[Level], shape: &[u64]) -> u64
     requires small { dense_size levels.now shape.now ≤ 2 ^ 24 }
     ensures front { result ≡ stage.dense_front levels.now shape.now }
@@ -55,8 +51,7 @@ fn dense_front(levels: &[Level], shape: &[u64]) -> u64
 
 /// The code of a freeze.
 pub(crate) fn freeze_code(alloc: Global, heads: &Heads<'_>, tensor: u8) -> Result<Code, AllocError>
-    requires shapes { values.AreShapes heads.now.shapes.now }
-    ensures { IfOk result (λ c. c ≡ spec.freeze_code (values.heads_of heads.now.headers.now heads.now.shapes.now) tensor) }
+    ensures { IfOk result (λ c. c ≡ spec.freeze_code heads.now tensor) }
 {
     let count = count_of(alloc, heads, tensor)?;
     let mut frozen = Items::new(alloc);
@@ -68,8 +63,7 @@ pub(crate) fn freeze_code(alloc: Global, heads: &Heads<'_>, tensor: u8) -> Resul
 
 /// The code of a thaw.
 pub(crate) fn thaw_code(alloc: Global, heads: &Heads<'_>, tensor: u8) -> Result<Code, AllocError>
-    requires shapes { values.AreShapes heads.now.shapes.now }
-    ensures { IfOk result (λ c. c ≡ spec.thaw_code (values.heads_of heads.now.headers.now heads.now.shapes.now) tensor) }
+    ensures { IfOk result (λ c. c ≡ spec.thaw_code heads.now tensor) }
 {
     let count = count_of(alloc, heads, tensor)?;
     let mut thawed = Items::new(alloc);
@@ -80,8 +74,7 @@ pub(crate) fn thaw_code(alloc: Global, heads: &Heads<'_>, tensor: u8) -> Result<
 }
 
 fn count_of(alloc: Global, heads: &Heads<'_>, tensor: u8) -> Result<IExpr, AllocError>
-    requires shapes { values.AreShapes heads.now.shapes.now }
-    ensures { IfOk result (λ e. e ≡ spec.count_of (values.heads_of heads.now.headers.now heads.now.shapes.now) tensor) }
+    ensures { IfOk result (λ e. e ≡ spec.count_of heads.now tensor) }
 {
     let format = format_of(alloc, heads, tensor)?;
     count_expr(
@@ -92,27 +85,34 @@ fn count_of(alloc: Global, heads: &Heads<'_>, tensor: u8) -> Result<IExpr, Alloc
     )
 }
 
+/// An update of a tensor at a coordinate by a value.
+#[derive(Drop)]
+pub(crate) struct Update<'a> {
+    pub tensor: u8,
+    pub at: &'a [Index],
+    pub by: Reduce,
+    pub value: &'a Expr,
+}
+
 /// Appends the code of an update behind that of its value.
 pub(crate) fn push_update(
     alloc: Global,
     into: &mut Items<Code>,
-    shape: &[u64],
-    at: &[Index],
-    tensor: u8,
-    by: Reduce,
+    heads: &Heads<'_>,
+    update: &Update<'_>,
     value: IExpr,
 ) -> Result<(), AllocError>
-    requires small { AreSmall shape.now }
-    ensures { OnOk result (into.new ≡ into.old ++ made.When (reads.in_box shape.now (map values.index_code at.now)) (made.Update tensor (map values.index_code at.now) by value) ∷ spec.charge_of 1 ∷ []) }
+    ensures { let codes = spec.update_after heads.now update.now.tensor update.now.at.now update.now.by value in
+        OnOk result (into.new ≡ into.old ++ codes) }
 {
-    let at = index_codes(alloc, at)?;
-    let test = in_box(alloc, shape, at.as_slice())?;
+    let at = index_codes(alloc, update.at)?;
+    let test = in_box(alloc, shape_of(heads, update.tensor), at.as_slice())?;
     let body = Boxed::new(
         alloc,
         Code::Update {
-            tensor,
+            tensor: update.tensor,
             at,
-            by,
+            by: update.by,
             value,
         },
     )?;

@@ -1,25 +1,42 @@
 //! The code of statements. It has a local for each variable, by its number, and others from `next` on; it leaves each
 //! local below `next` as it was. `most` tells how many locals are needed so far.
-ghost use Rattle.std.specs.Prelude.{◌≡◌, ◌+◌, ◌≤◌, ◌^◌, ◌++◌, ◌∷◌, [], max, IfOk, OnOk, slice_index_or};
-ghost use Rattle.fin_ast.specs.Shaped.{AreRanged};
+ghost use Rattle.std.specs.Prelude.{◌≡◌, ◌+◌, ◌≤◌, ◌^◌, ◌++◌, ◌∷◌, [], max, IfOk, OnOk};
 ghost use Rattle.fin_read.specs.Values as values;
-ghost use Rattle.fin_lower.specs.Built as built;
 ghost use Rattle.fin_lower.specs.Lowering as spec;
 ghost use Rattle.fin_lower.specs.Room as room;
+ghost use Rattle.fin_lower.specs.Sites as sites;
 
-use crate::single::{declare_code, freeze_code, push_charge, push_update, thaw_code};
-use fin_ast::{Expr, Index, Stmt};
-use fin_base::Reduce;
+use crate::single::{Update, declare_code, freeze_code, push_charge, push_update, thaw_code};
+use fin_ast::{Expr, Stmt};
 use fin_ir::{Code, IExpr};
-use fin_read::{Heads, Value, push, push_value, shape_of};
+use fin_read::{Heads, Value, push, push_value};
 use sqlite_items::{Boxed, Items};
 use std::alloc::{AllocError, Global};
+use std::marker::Model;
 
-/// The heads of tensors, and the range of each variable.
-#[derive(Clone, Copy)]
-pub(crate) struct Sides<'a> {
-    pub heads: Heads<'a>,
+/// Where the code of a statement stands: the heads of tensors, whose dense extents keep their limit, the range of each
+/// variable, and the first local that is free there.
+#[derive(Drop)]
+pub(crate) struct Site<'a> {
+    pub heads: &'a Heads<'a>,
     pub ranges: &'a [(u64, u64)],
+    pub next: u32,
+}
+
+impl<'a> Model for Site<'a> {
+    ghost use Rattle.std.specs.Coded.{codes};
+    ghost use Rattle.fin_ast.specs.contracts.header.Header as header;
+    ghost use Rattle.fin_ast.specs.Shaped.{AreRanged};
+    ghost use Rattle.fin_lower.specs.Built.{AreBuilt};
+    ghost use Rattle.fin_lower.specs.Sites.{Site as Stands, site_over};
+
+    ghost Value = { Stands };
+
+    ghost coded = { Prim.hlevel (codes, header.the_row.coded) };
+
+    ghost view = { λ s. site_over s.heads.now s.ranges.now s.next };
+
+    ghost invariant = { λ s. AreBuilt s.heads.now × AreRanged s.ranges.now };
 }
 
 /// Appends the code of each statement.
@@ -29,21 +46,17 @@ pub(crate) fn push_all(
     alloc: Global,
     body: &[Stmt],
     into: &mut Items<Code>,
-    sides: &Sides<'_>,
-    next: u32,
+    site: &Site<'_>,
     most: &mut u32,
 ) -> Result<(), AllocError>
-    requires shapes { values.AreShapes sides.now.heads.shapes.now }
-    requires built { built.AreBuilt sides.now.heads.headers.now sides.now.heads.shapes.now }
-    requires ranged { AreRanged sides.now.ranges.now }
-    ensures code { OnOk result (into.new ≡ into.old ++ spec.code_of_all (spec.sides_over sides.now.heads.headers.now sides.now.heads.shapes.now sides.now.ranges.now) next body.now) }
-    ensures reach { OnOk result (most.new ≡ max most.old (room.reach_of_all (values.heads_of sides.now.heads.headers.now sides.now.heads.shapes.now) next body.now)) }
+    ensures code { OnOk result (into.new ≡ into.old ++ sites.codes_at site.now body.now) }
+    ensures reach { OnOk result (most.new ≡ max most.old (sites.reaches_at site.now body.now)) }
 {
     for statement in body {
-        let code = lower_one(alloc, statement, sides, next, most)?;
+        let code = lower_one(alloc, statement, site, most)?;
         into.push(code)?;
     }
-    *most = (*most).max(next);
+    *most = (*most).max(site.next);
     Ok(())
 }
 
@@ -51,15 +64,11 @@ pub(crate) fn push_all(
 fn lower_one(
     alloc: Global,
     statement: &Stmt,
-    sides: &Sides<'_>,
-    next: u32,
+    site: &Site<'_>,
     most: &mut u32,
 ) -> Result<Code, AllocError>
-    requires shapes { values.AreShapes sides.now.heads.shapes.now }
-    requires built { built.AreBuilt sides.now.heads.headers.now sides.now.heads.shapes.now }
-    requires ranged { AreRanged sides.now.ranges.now }
-    ensures code { IfOk result (λ c. c ≡ spec.code_of_stmt (spec.sides_over sides.now.heads.headers.now sides.now.heads.shapes.now sides.now.ranges.now) statement.now next) }
-    ensures reach { OnOk result (most.new ≡ max most.old (room.reach_of (values.heads_of sides.now.heads.headers.now sides.now.heads.shapes.now) statement.now next)) }
+    ensures code { IfOk result (λ c. c ≡ sites.code_at site.now statement.now) }
+    ensures reach { OnOk result (most.new ≡ max most.old (sites.reach_at site.now statement.now)) }
 {
     match statement {
         Stmt::Block {
@@ -68,7 +77,7 @@ fn lower_one(
             last: _,
         } => {
             let mut codes = Items::new(alloc);
-            push_all(alloc, body.as_slice(), &mut codes, sides, next, most)?;
+            push_all(alloc, body.as_slice(), &mut codes, site, most)?;
             Ok(Code::Seq(codes))
         }
         Stmt::Loop {
@@ -78,35 +87,35 @@ fn lower_one(
             body,
             line: _,
             last: _,
-        } => lower_loop(alloc, body.as_slice(), *var, sides, next, most),
+        } => lower_loop(alloc, body.as_slice(), *var, site, most),
         Stmt::Cond {
             test,
             body,
             line: _,
             last: _,
-        } => lower_cond(alloc, body.as_slice(), test, sides, next, most),
+        } => lower_cond(alloc, body.as_slice(), test, site, most),
         Stmt::Bind {
             var,
             value,
             body,
             line: _,
             last: _,
-        } => lower_bind(alloc, body.as_slice(), *var, value, sides, next, most),
+        } => lower_bind(alloc, body.as_slice(), *var, value, site, most),
         Stmt::Declare {
             tensor,
             value: _,
             line: _,
         } => {
-            *most = (*most).max(next);
-            declare_code(alloc, &sides.heads, *tensor)
+            *most = (*most).max(site.next);
+            declare_code(alloc, site.heads, *tensor)
         }
         Stmt::Freeze { tensor, line: _ } => {
-            *most = (*most).max(next);
-            freeze_code(alloc, &sides.heads, *tensor)
+            *most = (*most).max(site.next);
+            freeze_code(alloc, site.heads, *tensor)
         }
         Stmt::Thaw { tensor, line: _ } => {
-            *most = (*most).max(next);
-            thaw_code(alloc, &sides.heads, *tensor)
+            *most = (*most).max(site.next);
+            thaw_code(alloc, site.heads, *tensor)
         }
         Stmt::Update {
             tensor,
@@ -114,7 +123,15 @@ fn lower_one(
             by,
             value,
             line: _,
-        } => lower_update(alloc, sides, at.as_slice(), *tensor, *by, value, next, most),
+        } => {
+            let update = Update {
+                tensor: *tensor,
+                at: at.as_slice(),
+                by: *by,
+                value,
+            };
+            lower_update(alloc, &update, site, most)
+        }
     }
 }
 
@@ -123,55 +140,44 @@ fn lower_loop(
     alloc: Global,
     body: &[Stmt],
     var: u32,
-    sides: &Sides<'_>,
-    next: u32,
+    site: &Site<'_>,
     most: &mut u32,
 ) -> Result<Code, AllocError>
-    requires shapes { values.AreShapes sides.now.heads.shapes.now }
-    requires built { built.AreBuilt sides.now.heads.headers.now sides.now.heads.shapes.now }
-    requires ranged { AreRanged sides.now.ranges.now }
-    ensures code { IfOk result (λ c. c ≡ spec.loop_code (slice_index_or sides.now.ranges.now var (0, 0)) var next (spec.code_of_all (spec.sides_over sides.now.heads.headers.now sides.now.heads.shapes.now sides.now.ranges.now) (next + 1) body.now)) }
-    ensures reach { OnOk result (most.new ≡ max most.old (room.reach_of_all (values.heads_of sides.now.heads.headers.now sides.now.heads.shapes.now) (next + 1) body.now)) }
+    ensures code { let turn = sites.codes_at (sites.behind site.now) body.now in
+        IfOk result (λ c. c ≡ spec.loop_code (spec.range_at site.now.sides var) var site.now.next turn) }
+    ensures reach { OnOk result (most.new ≡ max most.old (sites.reaches_at (sites.behind site.now) body.now)) }
 {
-    let after = following(next)?;
+    let inner = behind(site)?;
     let mut turn = Items::new(alloc);
     push_charge(&mut turn)?;
-    push_all(alloc, body, &mut turn, sides, after, most)?;
+    push_all(alloc, body, &mut turn, &inner, most)?;
     let turn = Boxed::new(alloc, Code::Seq(turn))?;
-    loop_of(alloc, sides, turn, var, next)
+    loop_of(alloc, site, turn, var)
 }
 
-fn loop_of(
-    alloc: Global,
-    sides: &Sides<'_>,
-    body: Boxed<Code>,
-    var: u32,
-    next: u32,
-) -> Result<Code, AllocError>
-    requires ranged { AreRanged sides.now.ranges.now }
-    ensures { IfOk result (λ c. c ≡ spec.loop_over (slice_index_or sides.now.ranges.now var (0, 0)) var next body) }
+fn loop_of(alloc: Global, site: &Site<'_>, body: Boxed<Code>, var: u32) -> Result<Code, AllocError>
+    ensures { IfOk result (λ c. c ≡ spec.loop_over (spec.range_at site.now.sides var) var site.now.next body) }
 {
-    let (lo, hi) = range_of(sides, var);
+    let (lo, hi) = range_of(site, var);
     let mut looped = Items::new(alloc);
     push_charge(&mut looped)?;
-    push_move(&mut looped, next, var)?;
+    push_move(&mut looped, site.next, var)?;
     looped.push(Code::ForLoop {
         var,
         lo: IExpr::Num(lo.min(hi) as i64),
         hi: IExpr::Num(hi as i64),
         body,
     })?;
-    push_move(&mut looped, var, next)?;
+    push_move(&mut looped, var, site.next)?;
     Ok(Code::Seq(looped))
 }
 
 // The range of a variable; that of a let is empty.
-fn range_of(sides: &Sides<'_>, var: u32) -> (u64, u64)
-    requires ranged { AreRanged sides.now.ranges.now }
-    ensures value { result ≡ slice_index_or sides.now.ranges.now var (0, 0) }
+fn range_of(site: &Site<'_>, var: u32) -> (u64, u64)
+    ensures value { result ≡ spec.range_at site.now.sides var }
     ensures small { result.1 ≤ 2 ^ 40 }
 {
-    match sides.ranges.get(var as usize) {
+    match site.ranges.get(var as usize) {
         Some(range) => *range,
         None => (0, 0),
     }
@@ -189,21 +195,19 @@ fn lower_cond(
     alloc: Global,
     body: &[Stmt],
     test: &Expr,
-    sides: &Sides<'_>,
-    next: u32,
+    site: &Site<'_>,
     most: &mut u32,
 ) -> Result<Code, AllocError>
-    requires shapes { values.AreShapes sides.now.heads.shapes.now }
-    requires built { built.AreBuilt sides.now.heads.headers.now sides.now.heads.shapes.now }
-    requires ranged { AreRanged sides.now.ranges.now }
-    ensures code { IfOk result (λ c. c ≡ spec.cond_code (values.value_code (values.heads_of sides.now.heads.headers.now sides.now.heads.shapes.now) test.now next) (spec.code_of_all (spec.sides_over sides.now.heads.headers.now sides.now.heads.shapes.now sides.now.ranges.now) next body.now)) }
-    ensures reach { OnOk result (most.new ≡ max most.old (max (room.end_of (values.value_code (values.heads_of sides.now.heads.headers.now sides.now.heads.shapes.now) test.now next)) (room.reach_of_all (values.heads_of sides.now.heads.headers.now sides.now.heads.shapes.now) next body.now))) }
+    ensures code { let tested = sites.value_at site.now test.now in
+        IfOk result (λ c. c ≡ spec.cond_code tested (sites.codes_at site.now body.now)) }
+    ensures reach { let tested = room.end_of (sites.value_at site.now test.now) in
+        OnOk result (most.new ≡ max most.old (max tested (sites.reaches_at site.now body.now))) }
 {
     let mut tested = Items::new(alloc);
     push_charge(&mut tested)?;
-    let test = push_valued(alloc, &mut tested, sides, test, next, most)?;
+    let test = push_valued(alloc, &mut tested, site, test, most)?;
     let mut inner = Items::new(alloc);
-    push_all(alloc, body, &mut inner, sides, next, most)?;
+    push_all(alloc, body, &mut inner, site, most)?;
     let body = Boxed::new(alloc, Code::Seq(inner))?;
     tested.push(Code::When { test, body })?;
     Ok(Code::Seq(tested))
@@ -215,54 +219,43 @@ fn lower_bind(
     body: &[Stmt],
     var: u32,
     value: &Expr,
-    sides: &Sides<'_>,
-    next: u32,
+    site: &Site<'_>,
     most: &mut u32,
 ) -> Result<Code, AllocError>
-    requires shapes { values.AreShapes sides.now.heads.shapes.now }
-    requires built { built.AreBuilt sides.now.heads.headers.now sides.now.heads.shapes.now }
-    requires ranged { AreRanged sides.now.ranges.now }
-    ensures code { IfOk result (λ c. c ≡ spec.bind_code var next (values.value_code (values.heads_of sides.now.heads.headers.now sides.now.heads.shapes.now) value.now (next + 1)) (spec.code_of_all (spec.sides_over sides.now.heads.headers.now sides.now.heads.shapes.now sides.now.ranges.now) (next + 1) body.now)) }
-    ensures reach { OnOk result (most.new ≡ max most.old (max (room.end_of (values.value_code (values.heads_of sides.now.heads.headers.now sides.now.heads.shapes.now) value.now (next + 1))) (room.reach_of_all (values.heads_of sides.now.heads.headers.now sides.now.heads.shapes.now) (next + 1) body.now))) }
+    ensures code { let bound = sites.value_at (sites.behind site.now) value.now in
+        let inner = sites.codes_at (sites.behind site.now) body.now in
+        IfOk result (λ c. c ≡ spec.bind_code var site.now.next bound inner) }
+    ensures reach { let bound = room.end_of (sites.value_at (sites.behind site.now) value.now) in
+        OnOk result (most.new ≡ max most.old (max bound (sites.reaches_at (sites.behind site.now) body.now))) }
 {
-    let after = following(next)?;
+    let within = behind(site)?;
     let mut bound = Items::new(alloc);
     push_charge(&mut bound)?;
-    push_move(&mut bound, next, var)?;
-    let value = push_valued(alloc, &mut bound, sides, value, after, most)?;
+    push_move(&mut bound, site.next, var)?;
+    let value = push_valued(alloc, &mut bound, &within, value, most)?;
     push(&mut bound, var, value)?;
     let mut inner = Items::new(alloc);
-    push_all(alloc, body, &mut inner, sides, after, most)?;
+    push_all(alloc, body, &mut inner, &within, most)?;
     bound.push(Code::Seq(inner))?;
-    push_move(&mut bound, var, next)?;
+    push_move(&mut bound, var, site.next)?;
     Ok(Code::Seq(bound))
 }
 
 fn lower_update(
     alloc: Global,
-    sides: &Sides<'_>,
-    at: &[Index],
-    tensor: u8,
-    by: Reduce,
-    value: &Expr,
-    next: u32,
+    update: &Update<'_>,
+    site: &Site<'_>,
     most: &mut u32,
 ) -> Result<Code, AllocError>
-    requires shapes { values.AreShapes sides.now.heads.shapes.now }
-    ensures code { IfOk result (λ c. c ≡ spec.update_code (values.heads_of sides.now.heads.headers.now sides.now.heads.shapes.now) tensor at.now by (values.value_code (values.heads_of sides.now.heads.headers.now sides.now.heads.shapes.now) value.now next)) }
-    ensures reach { OnOk result (most.new ≡ max most.old (room.end_of (values.value_code (values.heads_of sides.now.heads.headers.now sides.now.heads.shapes.now) value.now next))) }
+    ensures code { let value = sites.value_at site.now update.now.value.now in
+        let at = update.now.at.now in
+        IfOk result (λ c. c ≡ spec.update_code site.now.sides.heads update.now.tensor at update.now.by value) }
+    ensures reach { let value = sites.value_at site.now update.now.value.now in
+        OnOk result (most.new ≡ max most.old (room.end_of value)) }
 {
     let mut updated = Items::new(alloc);
-    let value = push_valued(alloc, &mut updated, sides, value, next, most)?;
-    push_update(
-        alloc,
-        &mut updated,
-        shape_of(&sides.heads, tensor),
-        at,
-        tensor,
-        by,
-        value,
-    )?;
+    let value = push_valued(alloc, &mut updated, site, update.value, most)?;
+    push_update(alloc, &mut updated, site.heads, update, value)?;
     Ok(Code::Seq(updated))
 }
 
@@ -270,20 +263,30 @@ fn lower_update(
 fn push_valued(
     alloc: Global,
     into: &mut Items<Code>,
-    sides: &Sides<'_>,
+    site: &Site<'_>,
     e: &Expr,
-    next: u32,
     most: &mut u32,
 ) -> Result<IExpr, AllocError>
-    requires shapes { values.AreShapes sides.now.heads.shapes.now }
-    ensures value { IfOk result (λ x. x ≡ (values.value_code (values.heads_of sides.now.heads.headers.now sides.now.heads.shapes.now) e.now next).value) }
-    ensures code { OnOk result (into.new ≡ into.old ++ values.prelude (values.value_code (values.heads_of sides.now.heads.headers.now sides.now.heads.shapes.now) e.now next)) }
-    ensures reach { OnOk result (most.new ≡ max most.old (room.end_of (values.value_code (values.heads_of sides.now.heads.headers.now sides.now.heads.shapes.now) e.now next))) }
+    ensures value { IfOk result (λ x. x ≡ (sites.value_at site.now e.now).value) }
+    ensures code { OnOk result (into.new ≡ into.old ++ values.prelude (sites.value_at site.now e.now)) }
+    ensures reach { OnOk result (most.new ≡ max most.old (room.end_of (sites.value_at site.now e.now))) }
 {
-    let Value { expr, next } = push_value(alloc, into, &sides.heads, e, next)?;
+    let Value { expr, next } = push_value(alloc, into, site.heads, e, site.next)?;
     let after = following(next)?;
     *most = (*most).max(after);
     Ok(expr)
+}
+
+// The site behind the first free local.
+fn behind<'a>(site: &Site<'a>) -> Result<Site<'a>, AllocError>
+    ensures { IfOk result (λ s. s ≡ sites.behind site.now) }
+{
+    let next = following(site.next)?;
+    Ok(Site {
+        heads: site.heads,
+        ranges: site.ranges,
+        next,
+    })
 }
 
 // The local behind that one; there is no memory for as many as a `u32` can't count.

@@ -1,8 +1,9 @@
 //! Accesses and expressions as loop code.
 //!
 //! `push_value` appends the code of an expression's accesses, and gives an expression of loop code over what they
-//! leave. An access goes from level to level of its tensor by positions: through a dense level by product and sum, through
-//! others by a search in the fibre. It leaves its value in a local of its own; a variable has the local of its number.
+//! leave. An access goes from level to level of its tensor by positions: through a dense level by product and sum,
+//! through others by a search in the fibre. It leaves its value in a local of its own; a variable has the local of its
+//! number.
 //!
 //! The code is that of `specs/`, term for term, and the laws say what that code means. Where code sees each tensor that
 //! can be read as a storage of its function, the code of an expression has the value that the language gives it, and
