@@ -2,6 +2,7 @@
 use Rattle.std.specs.Prelude.{◌≡◌, ℕ, ◌+◌, List, ◌∷◌, ◌++◌, Contains, IfSome, unwrap_or}
 use Rattle.fin_tensor.specs.TensorFunction.{TensorFunction, filled}
 use Rattle.fin_tensor.specs.Canon.{IsAllowedIn}
+use Rattle.fin_tensor.specs.declared.format.Format.{Format}
 use Rattle.fin_tensor.specs.declared.storage.Storage.{Storage}
 use Rattle.fin_canon.specs.Entries.{undecorated}
 use Rattle.fin_ast.specs.declared.header.Header.{Header}
@@ -29,6 +30,10 @@ abbrev pub Adds : (ℕ → TensorFunction) → ℕ → Header → List (ℕ × S
 Adds f tensor h old new =
     (hs : List Header) (os : List (ℕ × Storage)) → AreStored f (outputs_from (tensor + 1) hs) os → (ps : List (ℕ × Storage)) × (new ++ os ≡ old ++ ps) × AreStored f (outputs_from tensor (h ∷ hs)) ps
 
+-- its storage isn't valid, by its size
+abbrev pub IsTooLarge : Format → TensorFunction → Type 0
+IsTooLarge format f = IsAllowedIn (undecorated format) f → ⊥
+
 -- an output is too large to store
 abbrev pub HasLarge : (ℕ → TensorFunction) → List Header → Type 0
-HasLarge f headers = (e : ℕ × Header) × Contains (outputs_from 0 headers) e × (IsAllowedIn (undecorated e.1.format) (f e.0) → ⊥)
+HasLarge f headers = (e : ℕ × Header) × Contains (outputs_from 0 headers) e × IsTooLarge e.1.format (f e.0)

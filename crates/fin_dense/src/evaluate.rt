@@ -1,8 +1,7 @@
 //! Whole programs.
 ghost use Rattle.std.specs.Prelude.{◌≡◌, ◌<◌, ◌≤◌, ◌^◌, IfOk, IsErrOf, map, pos};
-ghost use Rattle.fin_dense.specs.Fitting.{whole};
 ghost use Rattle.fin_dense.specs.Plain.{IsOver, IsPlain, Plains};
-ghost use Rattle.fin_dense.specs.Runs.{setting_in, state_of};
+ghost use Rattle.fin_dense.specs.Runs.{state_of, whole_in};
 
 use crate::halt::Halt;
 use crate::lookups::setting;
@@ -38,9 +37,9 @@ fn evaluate(alloc: Global, checked: &Checked, inputs: &[Storage]) -> Result<Outp
 }
 
 fn run_whole(alloc: Global, setting: &Setting<'_>) -> Result<Run, Halt>
-    ensures ok { IfOk result (λ run. state_of run ≡ whole (setting_in setting.now) setting.now.checked.now) }
+    ensures ok { IfOk result (λ run. state_of run ≡ whole_in setting.now) }
     ensures few { IfOk result (λ run. run.turns ≤ 2 ^ 24) }
-    ensures spent { IsErrOf result Halt.Spent → 2 ^ 24 < (whole (setting_in setting.now) setting.now.checked.now).turns }
+    ensures spent { IsErrOf result Halt.Spent → 2 ^ 24 < (whole_in setting.now).turns }
 {
     let made = nothing_made(alloc, setting.checked.program.headers.as_slice())?;
     let vars = unbound(alloc, setting.checked.dims.ranges.as_slice())?;

@@ -31,7 +31,9 @@ pub fn declare(
     made: &mut Vec<Option<Grid>>,
     tensor: u8,
 ) -> Result<(), AllocError>
-    ensures { OnOk result (made.new.items ≡ slice_set made.old.items tensor (Some (filled (shape_at (setting_in setting.now) tensor) (fill_of (setting_in setting.now) tensor)))) }
+    ensures { let w = setting_in setting.now in
+        let declared = Some (filled (shape_at w tensor) (fill_of w tensor)) in
+        OnOk result (made.new.items ≡ slice_set made.old.items tensor declared) }
 {
     let shape = shape_of(alloc, setting, tensor)?;
     let grid = Grid::new(alloc, shape, fill_of(setting, tensor));
@@ -42,27 +44,36 @@ pub fn declare(
     Ok(())
 }
 
+/// What an update changes: a tensor at a coordinate, by a value.
+#[derive(Drop)]
+pub struct Change<'a> {
+    pub tensor: u8,
+    pub at: &'a [Index],
+    pub by: Reduce,
+    pub value: i64,
+}
+
 /// One coordinate's value is reduced, where the indices point into the box.
 pub fn update(
     alloc: Global,
     made: &mut Vec<Option<Grid>>,
-    tensor: u8,
-    at: &[Index],
-    by: Reduce,
-    value: i64,
     vars: &[i64],
+    change: &Change<'_>,
 ) -> Result<(), AllocError>
-    ensures { OnOk result (made.new.items ≡ slice_set made.old.items tensor (updated_if (made_at made.old.items tensor) (map (place vars.now) at.now) by value)) }
+    ensures { let tensor = change.now.tensor in
+        let at = map (place vars.now) change.now.at.now in
+        let updated = updated_if (made_at made.old.items tensor) at change.now.by change.now.value in
+        OnOk result (made.new.items ≡ slice_set made.old.items tensor updated) }
 {
-    let tensor = tensor as usize;
+    let tensor = change.tensor as usize;
     if tensor >= made.len() {
         return Ok(());
     }
     let Some(grid) = &mut made[tensor] else {
         return Ok(());
     };
-    if let Some(cs) = coordinates(alloc, grid.shape(), at, vars)? {
-        grid.update(alloc, &cs, by, value)?;
+    if let Some(cs) = coordinates(alloc, grid.shape(), change.at, vars)? {
+        grid.update(alloc, &cs, change.by, change.value)?;
     }
     Ok(())
 }

@@ -1,15 +1,15 @@
 //! The storages of a program's outputs.
 ghost use Rattle.std.specs.Prelude.{◌≡◌, IfOk, IsErrOf, OnOk, Some, option_map, slice_get};
-ghost use Rattle.fin_tensor.specs.Canon.{IsAllowedIn, IsCanon};
+ghost use Rattle.fin_tensor.specs.Canon.{IsCanon};
 ghost use Rattle.fin_tensor.specs.Lines.{IsShape};
 ghost use Rattle.fin_tensor.specs.Placement.{IsPlaced};
 ghost use Rattle.fin_tensor.specs.TensorFunction.{filled};
 ghost use Rattle.fin_canon.specs.Entries.{AreEntries, named, undecorated};
 ghost use Rattle.fin_ast.specs.Dense.{made_at};
-ghost use Rattle.fin_dense.specs.Fitting.{Adds, HasLarge, HaveHeaders, function_in};
 ghost use Rattle.fin_ast.specs.Kinds.{is_output};
+ghost use Rattle.fin_dense.specs.Fitting.{Adds, HasLarge, HaveHeaders, IsTooLarge};
 ghost use Rattle.fin_dense.specs.Plain.{AreStored, outputs_from};
-ghost use Rattle.fin_dense.specs.Runs.{setting_in};
+ghost use Rattle.fin_dense.specs.Runs.{functions_in, headers_in, setting_in};
 
 use crate::halt::Halt;
 use crate::lookups::shape_of;
@@ -27,8 +27,9 @@ use std::alloc::{AllocError, Global};
 /// `Spent` where one isn't valid by its size, and `Memory` for want of memory.
 pub fn outputs(alloc: Global, setting: &Setting<'_>, made: &[Option<Grid>]) -> Result<Outputs, Halt>
     requires headers { HaveHeaders (setting_in setting.now) made.now }
-    ensures stored { IfOk result (λ o. AreStored (function_in (setting_in setting.now) made.now) (outputs_from 0 setting.now.checked.now.program.headers) o.tensors) }
-    ensures large { IsErrOf result Halt.Spent → HasLarge (function_in (setting_in setting.now) made.now) setting.now.checked.now.program.headers }
+    ensures stored { let outputs = outputs_from 0 (headers_in setting.now) in
+        IfOk result (λ o. AreStored (functions_in setting.now made.now) outputs o.tensors) }
+    ensures large { IsErrOf result Halt.Spent → HasLarge (functions_in setting.now made.now) (headers_in setting.now) }
 {
     let mut tensors = Seq::new(alloc);
     for k in 0..setting.checked.program.headers.len() {
@@ -48,9 +49,9 @@ fn add_output(
     into: &mut Seq<(u8, Storage)>,
 ) -> Result<(), Halt>
     requires headers { HaveHeaders (setting_in setting.now) made.now }
-    requires header { slice_get setting.now.checked.now.program.headers tensor ≡ Some header.now }
-    ensures added { OnOk result (Adds (function_in (setting_in setting.now) made.now) tensor header.now into.old into.new) }
-    ensures large { IsErrOf result Halt.Spent → HasLarge (function_in (setting_in setting.now) made.now) setting.now.checked.now.program.headers }
+    requires header { slice_get (headers_in setting.now) tensor ≡ Some header.now }
+    ensures added { OnOk result (Adds (functions_in setting.now made.now) tensor header.now into.old into.new) }
+    ensures large { IsErrOf result Halt.Spent → HasLarge (functions_in setting.now made.now) (headers_in setting.now) }
 {
     if !is_output(header.kind) {
         return Ok(());
@@ -75,9 +76,11 @@ fn output(
     header: &Header,
 ) -> Result<Storage, Halt>
     requires headers { HaveHeaders (setting_in setting.now) made.now }
-    requires header { slice_get setting.now.checked.now.program.headers tensor ≡ Some header.now }
-    ensures canon { IfOk result (λ s. IsCanon (undecorated header.now.format) (function_in (setting_in setting.now) made.now tensor) s) }
-    ensures large { IsErrOf result Halt.Spent → IsAllowedIn (undecorated header.now.format) (function_in (setting_in setting.now) made.now tensor) → ⊥ }
+    requires header { slice_get (headers_in setting.now) tensor ≡ Some header.now }
+    ensures canon { let f = functions_in setting.now made.now tensor in
+        IfOk result (λ s. IsCanon (undecorated header.now.format) f s) }
+    ensures large { let f = functions_in setting.now made.now tensor in
+        IsErrOf result Halt.Spent → IsTooLarge header.now.format f }
 {
     match grid_of(made, tensor) {
         Some(grid) => store_grid(alloc, &header.format, grid),
@@ -102,7 +105,7 @@ fn store_grid(alloc: Global, format: &Format, grid: &Grid) -> Result<Storage, Ha
     requires shape { IsShape format.now.levels grid.now.shape }
     requires fill { format.now.fill ≡ grid.now.fill }
     ensures canon { IfOk result (λ s. IsCanon (undecorated format.now) grid.now s) }
-    ensures large { IsErrOf result Halt.Spent → IsAllowedIn (undecorated format.now) grid.now → ⊥ }
+    ensures large { IsErrOf result Halt.Spent → IsTooLarge format.now grid.now }
 {
     grid.is_tensor();
     let shape = numbers(alloc, grid.shape())?;
@@ -114,7 +117,7 @@ fn store_fill(alloc: Global, format: &Format, shape: &Nums) -> Result<Storage, H
     requires placed { IsPlaced format.now.levels format.now.wrap }
     requires shape { IsShape format.now.levels shape.now }
     ensures canon { IfOk result (λ s. IsCanon (undecorated format.now) (filled shape.now format.now.fill) s) }
-    ensures large { IsErrOf result Halt.Spent → IsAllowedIn (undecorated format.now) (filled shape.now format.now.fill) → ⊥ }
+    ensures large { IsErrOf result Halt.Spent → IsTooLarge format.now (filled shape.now format.now.fill) }
 {
     store_entries(alloc, format, shape, &[])
 }
@@ -128,8 +131,9 @@ fn store_entries(
     requires placed { IsPlaced format.now.levels format.now.wrap }
     requires shape { IsShape format.now.levels shape.now }
     requires entries { AreEntries shape.now entries.now }
-    ensures canon { IfOk result (λ s. IsCanon (undecorated format.now) (named shape.now format.now.fill entries.now) s) }
-    ensures large { IsErrOf result Halt.Spent → IsAllowedIn (undecorated format.now) (named shape.now format.now.fill entries.now) → ⊥ }
+    ensures canon { let f = named shape.now format.now.fill entries.now in
+        IfOk result (λ s. IsCanon (undecorated format.now) f s) }
+    ensures large { IsErrOf result Halt.Spent → IsTooLarge format.now (named shape.now format.now.fill entries.now) }
 {
     match store(alloc, format, shape, entries) {
         Ok(storage) => Ok(storage),

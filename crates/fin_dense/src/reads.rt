@@ -1,9 +1,9 @@
 //! Values of expressions.
 ghost use Rattle.std.specs.Prelude.{◌≡◌, IfOk, Some, map};
 ghost use Rattle.fin_tensor.specs.Stands.{stands};
-ghost use Rattle.fin_ast.specs.Dense.{made_at, tensors_in};
+ghost use Rattle.fin_ast.specs.Dense.{made_at};
 ghost use Rattle.fin_ast.specs.Value.{place, read as read_of, value_of};
-ghost use Rattle.fin_dense.specs.Runs.{setting_in, state_of};
+ghost use Rattle.fin_dense.specs.Runs.{seen_in};
 
 use crate::lookups::input;
 use crate::points::{coordinates, number};
@@ -22,7 +22,7 @@ pub fn value(
     run: &Run,
     expr: &Expr,
 ) -> Result<i64, AllocError>
-    ensures { IfOk result (λ v. v ≡ value_of expr.now run.now.vars.items (tensors_in (setting_in setting.now) (state_of run.now))) }
+    ensures { IfOk result (λ v. v ≡ value_of expr.now run.now.vars.items (seen_in setting.now run.now)) }
 {
     match expr {
         Expr::Num(value) => Ok(*value),
@@ -51,7 +51,8 @@ fn read(
     tensor: u8,
     at: &[Index],
 ) -> Result<i64, AllocError>
-    ensures { IfOk result (λ v. v ≡ read_of (tensors_in (setting_in setting.now) (state_of run.now) tensor) (map (place run.now.vars.items) at.now)) }
+    ensures { let at = map (place run.now.vars.items) at.now in
+        IfOk result (λ v. v ≡ read_of (seen_in setting.now run.now tensor) at) }
 {
     match input(setting, tensor) {
         Some(storage) => read_stored(alloc, storage, at, run.vars.as_slice()),

@@ -1,11 +1,11 @@
 //! Statements, run one after another.
-ghost use Rattle.std.specs.Prelude.{◌≡◌, ◌<◌, ◌≤◌, ◌^◌, IsErrOf, OnOk, pos, slice_set};
+ghost use Rattle.std.specs.Prelude.{◌≡◌, ◌≤◌, ◌^◌, IsErrOf, OnOk, pos, slice_set};
 ghost use Rattle.fin_ast.specs.Dense.{braced, looped, range_of, run_all, run_of};
-ghost use Rattle.fin_dense.specs.Runs.{setting_in, state_of};
+ghost use Rattle.fin_dense.specs.Runs.{HasDone, TakesLong, setting_in};
 
 use crate::halt::Halt;
 use crate::lookups::range_of;
-use crate::made::{declare, flags, forget, update};
+use crate::made::{Change, declare, flags, forget, update};
 use crate::reads::value;
 use crate::setting::Setting;
 use fin_ast::Stmt;
@@ -27,10 +27,10 @@ pub struct Run {
 #[cycle(run)]
 pub fn each(alloc: Global, setting: &Setting<'_>, run: &mut Run, body: &[Stmt]) -> Result<(), Halt>
     requires few { run.old.turns ≤ 2 ^ 24 }
-    ensures ok { OnOk result (state_of run.new ≡ run_all (setting_in setting.now) body.now run.old.vars.items (state_of run.old)) }
+    ensures ok { OnOk result (HasDone (run_all (setting_in setting.now) body.now) run.old run.new) }
     ensures vars { OnOk result (run.new.vars.items ≡ run.old.vars.items) }
     ensures within { OnOk result (run.new.turns ≤ 2 ^ 24) }
-    ensures spent { IsErrOf result Halt.Spent → 2 ^ 24 < (run_all (setting_in setting.now) body.now run.old.vars.items (state_of run.old)).turns }
+    ensures spent { IsErrOf result Halt.Spent → TakesLong (run_all (setting_in setting.now) body.now) run.old }
 {
     for statement in body {
         one(alloc, setting, run, statement)?;
@@ -42,10 +42,10 @@ pub fn each(alloc: Global, setting: &Setting<'_>, run: &mut Run, body: &[Stmt]) 
 #[cycle(run)]
 fn one(alloc: Global, setting: &Setting<'_>, run: &mut Run, statement: &Stmt) -> Result<(), Halt>
     requires few { run.old.turns ≤ 2 ^ 24 }
-    ensures ok { OnOk result (state_of run.new ≡ run_of (setting_in setting.now) statement.now run.old.vars.items (state_of run.old)) }
+    ensures ok { OnOk result (HasDone (run_of (setting_in setting.now) statement.now) run.old run.new) }
     ensures vars { OnOk result (run.new.vars.items ≡ run.old.vars.items) }
     ensures within { OnOk result (run.new.turns ≤ 2 ^ 24) }
-    ensures spent { IsErrOf result Halt.Spent → 2 ^ 24 < (run_of (setting_in setting.now) statement.now run.old.vars.items (state_of run.old)).turns }
+    ensures spent { IsErrOf result Halt.Spent → TakesLong (run_of (setting_in setting.now) statement.now) run.old }
 {
     match statement {
         Stmt::Block {
@@ -96,16 +96,14 @@ fn one(alloc: Global, setting: &Setting<'_>, run: &mut Run, statement: &Stmt) ->
             value: given,
             line: _,
         } => {
-            let given = value(alloc, setting, run, given)?;
-            Ok(update(
-                alloc,
-                &mut run.made,
-                *tensor,
-                at.as_slice(),
-                *by,
-                given,
-                run.vars.as_slice(),
-            )?)
+            let value = value(alloc, setting, run, given)?;
+            let change = Change {
+                tensor: *tensor,
+                at: at.as_slice(),
+                by: *by,
+                value,
+            };
+            Ok(update(alloc, &mut run.made, run.vars.as_slice(), &change)?)
         }
     }
 }
@@ -120,10 +118,12 @@ fn looped(
     body: &[Stmt],
 ) -> Result<(), Halt>
     requires few { run.old.turns ≤ 2 ^ 24 }
-    ensures ok { OnOk result (state_of run.new ≡ looped (range_of (setting_in setting.now) var) var (braced (run_all (setting_in setting.now) body.now)) run.old.vars.items (state_of run.old)) }
+    ensures ok { let turn = braced (run_all (setting_in setting.now) body.now) in
+        OnOk result (HasDone (looped (range_of (setting_in setting.now) var) var turn) run.old run.new) }
     ensures vars { OnOk result (run.new.vars.items ≡ run.old.vars.items) }
     ensures within { OnOk result (run.new.turns ≤ 2 ^ 24) }
-    ensures spent { IsErrOf result Halt.Spent → 2 ^ 24 < (looped (range_of (setting_in setting.now) var) var (braced (run_all (setting_in setting.now) body.now)) run.old.vars.items (state_of run.old)).turns }
+    ensures spent { let turn = braced (run_all (setting_in setting.now) body.now) in
+        IsErrOf result Halt.Spent → TakesLong (looped (range_of (setting_in setting.now) var) var turn) run.old }
 {
     let (lo, hi) = range_of(setting, var);
     for i in lo..hi {
@@ -147,10 +147,12 @@ fn bind(
     body: &[Stmt],
 ) -> Result<(), Halt>
     requires few { run.old.turns ≤ 2 ^ 24 }
-    ensures ok { OnOk result (state_of run.new ≡ braced (run_all (setting_in setting.now) body.now) (slice_set run.old.vars.items var number) (state_of run.old)) }
+    ensures ok { let turn = braced (run_all (setting_in setting.now) body.now) in
+        OnOk result (HasDone (λ vars. turn (slice_set vars var number)) run.old run.new) }
     ensures vars { OnOk result (run.new.vars.items ≡ run.old.vars.items) }
     ensures within { OnOk result (run.new.turns ≤ 2 ^ 24) }
-    ensures spent { IsErrOf result Halt.Spent → 2 ^ 24 < (braced (run_all (setting_in setting.now) body.now) (slice_set run.old.vars.items var number) (state_of run.old)).turns }
+    ensures spent { let turn = braced (run_all (setting_in setting.now) body.now) in
+        IsErrOf result Halt.Spent → TakesLong (λ vars. turn (slice_set vars var number)) run.old }
 {
     let var = var as usize;
     if var >= run.vars.len() {
@@ -167,10 +169,10 @@ fn bind(
 #[cycle(run)]
 fn braced(alloc: Global, setting: &Setting<'_>, run: &mut Run, body: &[Stmt]) -> Result<(), Halt>
     requires few { run.old.turns ≤ 2 ^ 24 }
-    ensures ok { OnOk result (state_of run.new ≡ braced (run_all (setting_in setting.now) body.now) run.old.vars.items (state_of run.old)) }
+    ensures ok { OnOk result (HasDone (braced (run_all (setting_in setting.now) body.now)) run.old run.new) }
     ensures vars { OnOk result (run.new.vars.items ≡ run.old.vars.items) }
     ensures within { OnOk result (run.new.turns ≤ 2 ^ 24) }
-    ensures spent { IsErrOf result Halt.Spent → 2 ^ 24 < (braced (run_all (setting_in setting.now) body.now) run.old.vars.items (state_of run.old)).turns }
+    ensures spent { IsErrOf result Halt.Spent → TakesLong (braced (run_all (setting_in setting.now) body.now)) run.old }
 {
     let before = flags(alloc, run.made.as_slice())?;
     each(alloc, setting, run, body)?;
