@@ -8,7 +8,7 @@ use Rattle.fin_ast.specs.Modes.{mode_at_start}
 use Rattle.fin_life.specs.declared.mentions.Mention.TheVariants.{Nothing, Updates, Other}
 use Rattle.fin_life.specs.Passage.{ModeOf, modes_after}
 use Rattle.fin_life.specs.Mentions.{Noting, noted, note_of_expr}
-use Rattle.fin_life.specs.Drafts.{Carried, put_one, put_last, in_turn}
+use Rattle.fin_life.specs.Drafts.{Carried, begun, put_one, put_last, in_turn}
 
 pub record Completing : Type 0 where
   pub note : Noting
@@ -41,7 +41,7 @@ carried headers [] d = d
 carried headers (c ∷ cs) d = carried headers cs (put_whole c (put_all headers c d))
 
 abbrev pub carried_body : List Header → List Completing → ModeOf → List Stmt
-carried_body headers cs now = (carried headers cs (record { statements = []; modes = now })).statements
+carried_body headers cs now = (carried headers cs (begun now)).statements
 
 abbrev pub line_of : {A : Type 0} → Stmt-F A → ℕ
 line_of (Stmt-F.Block body line last) = line
@@ -75,5 +75,5 @@ completings_of headers ss = map (completing_of headers) ss
 -- the statements of a program with these headers and statements and that line behind its text
 abbrev pub carried_program : List Header → List Stmt → ℕ → List Stmt
 carried_program headers ss last =
-    let body = carried headers (completings_of headers ss) (record { statements = []; modes = mode_at_start headers }) in
+    let body = carried headers (completings_of headers ss) (begun (mode_at_start headers)) in
     (in_turn (put_last last) zero headers body).statements

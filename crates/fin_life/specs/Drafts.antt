@@ -16,6 +16,10 @@ pub record Carried : Type 0 where
   pub statements : List Stmt
   pub modes : ModeOf
 
+-- nothing, with the modes before a body
+abbrev pub begun : ModeOf → Carried
+begun now = record { statements = []; modes = now }
+
 abbrev pub carried_in : Table → Carried
 carried_in d = record { statements = d.statements; modes = mode_in d.modes }
 

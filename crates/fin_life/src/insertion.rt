@@ -1,9 +1,11 @@
 //! Puts freeze and thaw into a program.
-ghost use Rattle.std.specs.Prelude.{◌≡◌, ◌≤◌, IfOk, OnOk, List, length, zero, []};
+ghost use Rattle.std.specs.Prelude.{◌≡◌, ◌≤◌, IfOk, OnOk, List, length, zero};
 ghost use Rattle.fin_ast.specs.declared.header.Header.{Header};
 ghost use Rattle.fin_ast.specs.Insertion.{completed_program};
-ghost use Rattle.fin_life.specs.Completing.{completing_of, completings_of, put_all as put_all_of, carried, carried_body, carried_program};
-ghost use Rattle.fin_life.specs.Drafts.{carried_in, frozen, thawed, put_one as put_one_of, put_last as put_last_of, in_turn};
+ghost use Rattle.fin_life.specs.Completing.{carried, carried_body, carried_program, completing_of, completings_of};
+ghost use Rattle.fin_life.specs.Completing as completing;
+ghost use Rattle.fin_life.specs.Drafts.{begun, carried_in, frozen, in_turn, thawed};
+ghost use Rattle.fin_life.specs.Drafts as drafts;
 ghost use Rattle.fin_life.specs.Mentions.{mention_in};
 ghost use Rattle.fin_life.specs.Table.{mode_in};
 
@@ -46,7 +48,8 @@ impl Draft {
         line: u32,
         tensor: u8,
     ) -> Result<(), AllocError>
-        ensures { OnOk result (carried_in self.new ≡ put_one_of headers.now (mention_in mentions.now) line tensor (carried_in self.old)) }
+        ensures { let put = drafts.put_one headers.now (mention_in mentions.now) line tensor in
+            OnOk result (carried_in self.new ≡ put (carried_in self.old)) }
     {
         let mode = self.modes.at(tensor);
         let mention = mentions.at(tensor);
@@ -62,7 +65,8 @@ impl Draft {
     /// Puts in what all tensors want before a statement.
     fn put_all(&mut self, headers: &[Header], statement: &Stmt) -> Result<(), AllocError>
         requires { length headers.now ≤ 64 }
-        ensures { OnOk result (carried_in self.new ≡ put_all_of headers.now (completing_of headers.now statement.now) (carried_in self.old)) }
+        ensures { let put = completing.put_all headers.now (completing_of headers.now statement.now) in
+            OnOk result (carried_in self.new ≡ put (carried_in self.old)) }
     {
         let mut mentions = Mentions::nothing();
         mentions.note_statement(statement);
@@ -75,7 +79,7 @@ impl Draft {
 
     /// Puts in a freeze at the end of the program for an output in update mode.
     fn put_last(&mut self, header: &Header, line: u32, tensor: u8) -> Result<(), AllocError>
-        ensures { OnOk result (carried_in self.new ≡ put_last_of line tensor header.now (carried_in self.old)) }
+        ensures { OnOk result (carried_in self.new ≡ drafts.put_last line tensor header.now (carried_in self.old)) }
     {
         if header.kind == Kind::Output && is_update(self.modes.at(tensor)) {
             self.freeze(tensor, line)
@@ -87,7 +91,8 @@ impl Draft {
     /// The same for all outputs.
     fn put_at_end(&mut self, headers: &[Header], line: u32) -> Result<(), AllocError>
         requires { length headers.now ≤ 64 }
-        ensures { OnOk result (carried_in self.new ≡ in_turn (put_last_of line) zero headers.now (carried_in self.old)) }
+        ensures { let put = in_turn (drafts.put_last line) zero headers.now in
+            OnOk result (carried_in self.new ≡ put (carried_in self.old)) }
     {
         for tensor in 0..headers.len() {
             self.put_last(&headers[tensor], line, tensor as u8)?;
@@ -153,7 +158,8 @@ fn complete_all(
     now: &Modes,
 ) -> Result<Draft, AllocError>
     requires { length headers.now ≤ 64 }
-    ensures { IfOk result (λ d. carried_in d ≡ carried headers.now (completings_of headers.now body.now) (record { statements = []; modes = mode_in now.now })) }
+    ensures { let statements = completings_of headers.now body.now in
+        IfOk result (λ d. carried_in d ≡ carried headers.now statements (begun (mode_in now.now))) }
 {
     let mut draft = Draft {
         statements: Items::new(alloc),
@@ -176,7 +182,8 @@ fn complete_body(
     now: &Modes,
 ) -> Result<Items<Stmt>, AllocError>
     requires { length headers.now ≤ 64 }
-    ensures { IfOk result (λ ss. ss ≡ carried_body headers.now (completings_of headers.now body.now) (mode_in now.now)) }
+    ensures { let statements = completings_of headers.now body.now in
+        IfOk result (λ ss. ss ≡ carried_body headers.now statements (mode_in now.now)) }
 {
     let draft = complete_all(alloc, headers, body, now)?;
     Ok(draft.statements)

@@ -1,10 +1,12 @@
 //! The rules on the life of tensors.
 ghost use Rattle.std.specs.Prelude.{◌≡◌, ◌≤◌, IfOk, IfErr, length, List, [], None, Some};
-ghost use Rattle.fin_ast.specs.Life.{life_in, breach_by, first_changed as first_changed_of, first_unread as first_unread_of};
+ghost use Rattle.fin_ast.specs.Life.{life_in, breach_by};
+ghost use Rattle.fin_ast.specs.Life as life;
 ghost use Rattle.fin_ast.specs.declared.header.Header.{Header};
 ghost use Rattle.fin_ast.specs.Text.{Updates, Declares, Freezes, Thaws};
 ghost use Rattle.fin_life.specs.Completing.{completing_of};
-ghost use Rattle.fin_life.specs.Passage.{breach_of_expr, breach_in, body_breach, after_all, passage_of, passages_of, life_of};
+ghost use Rattle.fin_life.specs.Passage.{after_all, body_breach, breach_in, breach_of_expr, life_of};
+ghost use Rattle.fin_life.specs.Passage.{passage_of, passages_of};
 ghost use Rattle.fin_life.specs.Table.{mode_in};
 
 use crate::breach::broken;
@@ -50,7 +52,8 @@ fn first_breach(
 ) -> Option<Refusal>
     requires { length headers.now ≤ 64 }
     ensures breach { result ≡ breach_in (passages_of headers.now body.now) (mode_in begin.now) (mode_in now.old) }
-    ensures after { result ≡ None → mode_in now.new ≡ after_all (passages_of headers.now body.now) (mode_in now.old) }
+    ensures after { let statements = passages_of headers.now body.now in
+        result ≡ None → mode_in now.new ≡ after_all statements (mode_in now.old) }
 {
     for statement in body {
         if let Some(refusal) = stmt_breach(headers, statement, begin, now) {
@@ -134,8 +137,10 @@ fn inner_breach(headers: &[Header], body: &[Stmt], last: u32, begin: &Modes) -> 
 
 /// The modes after a statement.
 pub fn lead(statement: &Stmt, now: &mut Modes)
-    ensures inserting { (headers : List Header) → mode_in now.new ≡ (completing_of headers statement.now).after (mode_in now.old) }
-    ensures looking { (headers : List Header) → mode_in now.new ≡ (passage_of headers statement.now).after (mode_in now.old) }
+    ensures inserting { (headers : List Header)
+        → mode_in now.new ≡ (completing_of headers statement.now).after (mode_in now.old) }
+    ensures looking { (headers : List Header)
+        → mode_in now.new ≡ (passage_of headers statement.now).after (mode_in now.old) }
 {
     match statement {
         Stmt::Declare {
@@ -211,7 +216,7 @@ fn expr_breach(expr: &Expr, now: &Modes) -> Option<Refusal>
 
 fn first_changed(headers: &[Header], line: u32, begin: &Modes, now: &Modes) -> Option<Refusal>
     requires { length headers.now ≤ 64 }
-    ensures { result ≡ first_changed_of (mode_in begin.now) (mode_in now.now) line headers.now }
+    ensures { result ≡ life.first_changed (mode_in begin.now) (mode_in now.now) line headers.now }
 {
     for tensor in 0..headers.len() {
         let at = tensor as u8;
@@ -227,7 +232,7 @@ fn first_changed(headers: &[Header], line: u32, begin: &Modes, now: &Modes) -> O
 
 fn first_unread(headers: &[Header], now: &Modes) -> Option<Refusal>
     requires { length headers.now ≤ 64 }
-    ensures { result ≡ first_unread_of (mode_in now.now) headers.now }
+    ensures { result ≡ life.first_unread (mode_in now.now) headers.now }
 {
     for tensor in 0..headers.len() {
         let header = &headers[tensor];

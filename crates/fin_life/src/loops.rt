@@ -1,7 +1,7 @@
 //! The loops around a place.
 ghost use Rattle.std.specs.Prelude.{◌≡◌, ◌+◌, ◌<◌, ◌≤◌, [], ◌∷◌, ◌++◌, drop, length, nat_eq, take};
 ghost use Rattle.std.specs.Cmp.Lexicographic.{pointwise};
-ghost use Rattle.fin_ast.specs.Order.{is_variable as is_variable_of, are_variables as are_variables_of, is_in_order as is_in_order_of};
+ghost use Rattle.fin_ast.specs.Order as order;
 ghost use Rattle.fin_ast.specs.Ties.{bare};
 
 use fin_ast::Index;
@@ -80,13 +80,13 @@ fn past<T>(items: &[T], n: usize) -> &[T]
 
 /// Whether the first d indices are the bare variables of the d outermost loops.
 pub fn is_in_order(d: usize, loops: &[u32], at: &[Index]) -> bool
-    ensures { result ≡ is_in_order_of d loops.now at.now }
+    ensures { result ≡ order.is_in_order d loops.now at.now }
 {
     d <= loops.len() && are_variables(first(loops, d), first(at, d))
 }
 
 fn are_variables(loops: &[u32], at: &[Index]) -> bool
-    ensures { result ≡ are_variables_of loops.now at.now }
+    ensures { result ≡ order.are_variables loops.now at.now }
 {
     if loops.len() != at.len() {
         return false;
@@ -100,7 +100,7 @@ fn are_variables(loops: &[u32], at: &[Index]) -> bool
 }
 
 fn is_variable(var: u32, index: &Index) -> bool
-    ensures { result ≡ is_variable_of var (bare index.now) }
+    ensures { result ≡ order.is_variable var (bare index.now) }
 {
     match (index.loose, index.first, index.second, index.offset) {
         (false, Some(first), None, 0) => first == var,

@@ -2,7 +2,8 @@
 ghost use Rattle.std.specs.Prelude.{◌≡◌, List};
 ghost use Rattle.fin_ast.specs.declared.header.Header.{Header};
 ghost use Rattle.fin_life.specs.Completing.{noted_in, completing_of, completings_of};
-ghost use Rattle.fin_life.specs.Mentions.{joined as joined_of, noted, note_of_expr, mention_in, only_reads_of, only_updates_of};
+ghost use Rattle.fin_life.specs.Mentions.{mention_in, note_of_expr, noted, only_reads_of, only_updates_of};
+ghost use Rattle.fin_life.specs.Mentions as mentions;
 
 use fin_ast::{Expr, Stmt};
 
@@ -50,7 +51,8 @@ impl Mentions {
     /// What a statement does, too.
     #[cycle(noted)]
     pub fn note_statement(&mut self, statement: &Stmt)
-        ensures { (headers : List Header) → mention_in self.new ≡ (completing_of headers statement.now).note (mention_in self.old) }
+        ensures { (headers : List Header)
+            → mention_in self.new ≡ (completing_of headers statement.now).note (mention_in self.old) }
     {
         match statement {
             Stmt::Block {
@@ -107,7 +109,8 @@ impl Mentions {
 
     #[cycle(noted)]
     fn note_all(&mut self, body: &[Stmt])
-        ensures { (headers : List Header) → mention_in self.new ≡ noted_in (completings_of headers body.now) (mention_in self.old) }
+        ensures { (headers : List Header)
+            → mention_in self.new ≡ noted_in (completings_of headers body.now) (mention_in self.old) }
     {
         for statement in body {
             self.note_statement(statement);
@@ -134,7 +137,7 @@ impl Mentions {
 }
 
 fn joined(mention: Mention, before: Mention) -> Mention
-    ensures { result ≡ joined_of mention before }
+    ensures { result ≡ mentions.joined mention before }
 {
     match (mention, before) {
         (mention, Mention::Nothing) => mention,

@@ -1,7 +1,7 @@
 //! The modes of all tensors at a place.
 ghost use Rattle.std.specs.Prelude.{◌≡◌, ◌≤◌, length, if◌then◌else◌};
-ghost use Rattle.fin_ast.specs.Life.{is_update as is_update_mode, is_read as is_read_mode, is_declared as is_declared_mode, is_changed as is_changed_mode};
-ghost use Rattle.fin_ast.specs.Kinds.{is_input as is_input_kind};
+ghost use Rattle.fin_ast.specs.Life as life;
+ghost use Rattle.fin_ast.specs.Kinds as kinds;
 ghost use Rattle.fin_ast.specs.Modes.{is_input_at, mode_at_start};
 ghost use Rattle.fin_life.specs.Passage.{turned};
 ghost use Rattle.fin_life.specs.Table.{mode_in};
@@ -38,7 +38,8 @@ impl Modes {
 
     /// Leads a tensor with that header to its first mode.
     fn start(&mut self, header: &Header, tensor: u8)
-        ensures { mode_in self.new ≡ (if is_input_kind header.now.kind then turned (mode_in self.old) tensor Mode.Read else mode_in self.old) }
+        ensures { let before = mode_in self.old in
+            mode_in self.new ≡ (if kinds.is_input header.now.kind then turned before tensor Mode.Read else before) }
     {
         if header.kind == Kind::Input {
             self.lead(tensor, Mode::Read);
@@ -71,7 +72,7 @@ pub fn is_input(headers: &[Header], tensor: u8) -> bool
 }
 
 pub fn is_update(mode: Mode) -> bool
-    ensures { result ≡ is_update_mode mode }
+    ensures { result ≡ life.is_update mode }
 {
     match mode {
         Mode::Update => true,
@@ -80,7 +81,7 @@ pub fn is_update(mode: Mode) -> bool
 }
 
 pub fn is_read(mode: Mode) -> bool
-    ensures { result ≡ is_read_mode mode }
+    ensures { result ≡ life.is_read mode }
 {
     match mode {
         Mode::Read => true,
@@ -89,7 +90,7 @@ pub fn is_read(mode: Mode) -> bool
 }
 
 pub fn is_declared(mode: Mode) -> bool
-    ensures { result ≡ is_declared_mode mode }
+    ensures { result ≡ life.is_declared mode }
 {
     match mode {
         Mode::Undeclared => false,
@@ -98,7 +99,7 @@ pub fn is_declared(mode: Mode) -> bool
 }
 
 pub fn is_changed(begin: Mode, now: Mode) -> bool
-    ensures { result ≡ is_changed_mode begin now }
+    ensures { result ≡ life.is_changed begin now }
 {
     match begin {
         Mode::Undeclared => false,

@@ -7,7 +7,8 @@ ghost use Rattle.fin_ast.specs.Order.{order_in};
 ghost use Rattle.fin_tensor.specs.Order.{ordered_levels as ordered_levels_of};
 ghost use Rattle.fin_life.specs.Loops.{loops_in};
 ghost use Rattle.fin_life.specs.Tracks.{tracks_in};
-ghost use Rattle.fin_life.specs.Trails.{update_breach as update_breach_of, breach_along, after_all, trail_of, trails_of, order_of};
+ghost use Rattle.fin_life.specs.Trails.{after_all, breach_along, order_of, trail_of, trails_of};
+ghost use Rattle.fin_life.specs.Trails as trails;
 
 use crate::loops::{Loops, is_in_order};
 use crate::tracks::Tracks;
@@ -50,8 +51,10 @@ fn first_breach(
     tracks: &mut Tracks,
 ) -> Option<Refusal>
     requires { depth_of_all body.now + loops.now.count ≤ 16 }
-    ensures breach { result ≡ breach_along (trails_of headers.now body.now) (loops_in loops.now) (tracks_in tracks.old) }
-    ensures after { result ≡ None → tracks_in tracks.new ≡ after_all (trails_of headers.now body.now) (loops_in loops.now) (tracks_in tracks.old) }
+    ensures breach { let statements = trails_of headers.now body.now in
+        result ≡ breach_along statements (loops_in loops.now) (tracks_in tracks.old) }
+    ensures after { let statements = trails_of headers.now body.now in
+        result ≡ None → tracks_in tracks.new ≡ after_all statements (loops_in loops.now) (tracks_in tracks.old) }
 {
     for statement in body {
         if let Some(refusal) = stmt_breach(headers, statement, loops, tracks) {
@@ -69,8 +72,10 @@ fn stmt_breach(
     tracks: &mut Tracks,
 ) -> Option<Refusal>
     requires { depth_of statement.now + loops.now.count ≤ 16 }
-    ensures breach { result ≡ (trail_of headers.now statement.now).breach (loops_in loops.now) (tracks_in tracks.old) }
-    ensures after { result ≡ None → tracks_in tracks.new ≡ (trail_of headers.now statement.now).after (loops_in loops.now) (tracks_in tracks.old) }
+    ensures breach { let trail = trail_of headers.now statement.now in
+        result ≡ trail.breach (loops_in loops.now) (tracks_in tracks.old) }
+    ensures after { let trail = trail_of headers.now statement.now in
+        result ≡ None → tracks_in tracks.new ≡ trail.after (loops_in loops.now) (tracks_in tracks.old) }
 {
     match statement {
         Stmt::Block {
@@ -134,7 +139,8 @@ fn update_breach(
     loops: &Loops,
     tracks: &Tracks,
 ) -> Option<Refusal>
-    ensures { result ≡ update_breach_of headers.now tensor at.now line (loops_in loops.now) (tracks_in tracks.now) }
+    ensures { let breach = trails.update_breach headers.now tensor at.now line in
+        result ≡ breach (loops_in loops.now) (tracks_in tracks.now) }
 {
     let d = ordered(headers, tensor);
     let outer = tracks.outer(tensor);
