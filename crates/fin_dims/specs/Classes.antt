@@ -1,5 +1,5 @@
 -- Classes of joined dimensions and loops: a label for each class, and a number for each label.
-use Rattle.std.specs.Prelude.{◌≡◌, ◌≢◌, ◌<◌, ◌==◌, ◌++◌, [], ◌∷◌, ℕ, Bool, MatchBool, List, All, Contains, Option, Some, None, length, slice_get, slice_index_or, slice_set, if◌then◌else◌}
+use Rattle.std.specs.Prelude.{◌≡◌, ◌≢◌, ◌<◌, ◌==◌, ◌++◌, [], ◌∷◌, ℕ, Bool, MatchBool, List, map, All, Contains, Option, Some, None, length, slice_get, slice_index_or, slice_set, if◌then◌else◌}
 use Rattle.std.specs.Option.{option_or}
 use Rattle.fin_ast.specs.declared.place.Tie.{Tie}
 use Rattle.fin_ast.specs.Ties.{Node, Dimension, OfLoop, AreJoined, Shapes, known, HasExtent, IsUneven}
@@ -56,6 +56,20 @@ relabelled from to label = if label == from then to else label
 -- the number at one label, or else that at another, as the first one's
 abbrev pub joint : ℕ → ℕ → List (Option ℕ) → List (Option ℕ)
 joint from to numbers = slice_set numbers to (option_or (slice_index_or numbers to None) (slice_index_or numbers from None))
+
+abbrev pub number_of : Classes → ℕ → Option ℕ
+number_of c label = slice_index_or c.numbers.items label None
+
+-- one class has become another, whose number is equal where both are known
+abbrev pub Merges : Classes → Classes → ℕ → ℕ → Type 0
+Merges old new from to =
+    (new.labels.items ≡ map (relabelled from to) old.labels.items)
+    × (new.numbers.items ≡ joint from to old.numbers.items)
+    × AreEqual (number_of old to) (number_of old from)
+
+-- two classes have unequal numbers
+abbrev pub IsUnequalTo : Classes → ℕ → ℕ → Type 0
+IsUnequalTo c from to = AreUnequal (number_of c to) (number_of c from)
 
 abbrev pub AreSettled : Shapes → List Tie → Classes → Type 0
 AreSettled shapes ties c = IsSettled shapes ties (label_of c.anchors.items c.labels.items) c.numbers.items

@@ -1,6 +1,7 @@
 //! The choices of loops.
 ghost use Rattle.std.specs.Prelude.{◌≡◌, slice_get};
-ghost use Rattle.fin_ast.specs.Choices.{one_more as one_more_of, choice_at as choice_of_index, choices_at as choices_of_access, choices_of_expr, choices_in, first_in, crowd_of, crowds_of, levels_of};
+ghost use Rattle.fin_ast.specs.Choices.{choices_of_expr, choices_in, first_in, crowd_of, crowds_of, levels_of};
+ghost use Rattle.fin_ast.specs.Choices as counted;
 
 use crate::breach::broken;
 use fin_ast::{Expr, Header, Index, Stmt};
@@ -137,7 +138,7 @@ fn choices_of_value(headers: &[Header], expr: &Expr, before: u8) -> u8
 }
 
 fn choices_of_read(headers: &[Header], tensor: u8, at: &[Index], before: u8) -> u8
-    ensures { result ≡ choices_of_access (levels_of (slice_get headers.now tensor)) at.now before }
+    ensures { result ≡ counted.choices_at (levels_of (slice_get headers.now tensor)) at.now before }
 {
     match headers.get(tensor as usize) {
         Some(header) => choices_at(header.format.levels.as_slice(), at, before),
@@ -146,7 +147,7 @@ fn choices_of_read(headers: &[Header], tensor: u8, at: &[Index], before: u8) -> 
 }
 
 fn choices_at(levels: &[Level], at: &[Index], before: u8) -> u8
-    ensures { result ≡ choices_of_access levels.now at.now before }
+    ensures { result ≡ counted.choices_at levels.now at.now before }
 {
     let mut choices = before;
     for k in 0..levels.len().min(at.len()) {
@@ -156,7 +157,7 @@ fn choices_at(levels: &[Level], at: &[Index], before: u8) -> u8
 }
 
 fn choice_at(level: Level, index: Index, before: u8) -> u8
-    ensures { result ≡ choice_of_index level index before }
+    ensures { result ≡ counted.choice_at level index before }
 {
     if level == Level::Dense && !index.loose {
         before
@@ -166,7 +167,7 @@ fn choice_at(level: Level, index: Index, before: u8) -> u8
 }
 
 fn one_more(choices: u8) -> u8
-    ensures { result ≡ one_more_of choices }
+    ensures { result ≡ counted.one_more choices }
 {
     if choices < 9 { choices + 1 } else { choices }
 }

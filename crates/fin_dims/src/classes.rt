@@ -1,6 +1,6 @@
 //! Classes of dimensions and loops that ties join.
 ghost use Rattle.std.specs.Prelude.{◌≡◌, ◌<◌, ◌++◌, [], ◌∷◌, length, map, MatchBool, slice_index_or, IsTrue};
-ghost use Rattle.fin_dims.specs.Classes.{AreUnequal, AreEqual, IsReady, Joins, relabelled, joint};
+ghost use Rattle.fin_dims.specs.Classes.{AreEqual, AreUnequal, IsReady, IsUnequalTo, Joins, Merges, relabelled};
 
 use fin_ast::Tie;
 
@@ -52,7 +52,7 @@ impl Classes {
         ensures range { IsReady self.new }
         ensures dimensions { length self.new.labels.items ≡ length self.old.labels.items }
         ensures anchors { self.new.anchors.items ≡ self.old.anchors.items }
-        ensures merged { MatchBool result ((self.new.labels.items ≡ map (relabelled from to) self.old.labels.items) × (self.new.numbers.items ≡ joint from to self.old.numbers.items) × AreEqual (slice_index_or self.old.numbers.items to None) (slice_index_or self.old.numbers.items from None)) (AreUnequal (slice_index_or self.old.numbers.items to None) (slice_index_or self.old.numbers.items from None)) }
+        ensures merged { MatchBool result (Merges self.old self.new from to) (IsUnequalTo self.old from to) }
     {
         if are_unequal(self.numbers[to], self.numbers[from]) {
             return false;

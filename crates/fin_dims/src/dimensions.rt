@@ -2,7 +2,9 @@
 ghost use Rattle.std.specs.Prelude.{◌≡◌, IfOk, IfErr, length, [], None, Some};
 ghost use Rattle.std.specs.Option.{option_or};
 ghost use Rattle.fin_ast.specs.Ties.{AreExtents, IsUneven};
-ghost use Rattle.fin_ast.specs.Infer.{given as given_of, large_in, shapes_in, places_in, ties_in, dims_in, breach_in, IsInferred, IsFirstBreach};
+ghost use Rattle.fin_ast.specs.Infer.{large_in, shapes_in, places_in, ties_in, dims_in, breach_in, IsInferred};
+ghost use Rattle.fin_ast.specs.Infer.{IsFirstBreach};
+ghost use Rattle.fin_ast.specs.Infer as infer;
 ghost use Rattle.fin_dims.specs.Settled.{IfRefused, extent_of};
 
 use crate::choices::first_crowd;
@@ -62,7 +64,7 @@ fn given(
     shapes: &[Option<Nums>],
 ) -> Result<Vec<Option<Nums>>, AllocError>
     requires { length shapes.now ≡ length headers.now }
-    ensures { IfOk result (λ given. given.items ≡ given_of headers.now shapes.now []) }
+    ensures { IfOk result (λ given. given.items ≡ infer.given headers.now shapes.now []) }
 {
     let mut given = Vec::new(alloc);
     for k in 0..headers.len() {

@@ -1,8 +1,11 @@
 //! What the classes give: extents, shapes and ranges, and the rules on them.
-ghost use Rattle.std.specs.Prelude.{◌≡◌, ◌<◌, ◌*◌, ◌+◌, ◌≤◌, ◌^◌, [], ◌++◌, IfOk, OnOk, None, length, negsuc, pos, ◌-◌, slice_index_or};
+ghost use Rattle.std.specs.Prelude.{◌≡◌, ◌<◌, ◌*◌, ◌+◌, ◌≤◌, ◌^◌, ◌-◌, [], ◌++◌};
+ghost use Rattle.std.specs.Prelude.{IfOk, OnOk, None, length, negsuc, pos, slice_index_or};
 ghost use Rattle.std.specs.List.{cons_option};
 ghost use Rattle.fin_ast.specs.Ties.{Dimension, OfLoop};
-ghost use Rattle.fin_ast.specs.Sizes.{number_of, lacks_extent as lacks, unknown_in_header as unknown_header, unknown_in_place as unknown_place, first_unknown as first_unknown_of, first_of, first_from, shape_from, shapes_from, range_of as range_of_place, ranges_of, range_at as range_of_first, leaves as leaves_extent, outside as outside_extent, too_dense as dense_breach, first_dense as first_dense_of, dims_of};
+ghost use Rattle.fin_ast.specs.Sizes.{number_of, first_of, first_from, shape_from, shapes_from, ranges_of};
+ghost use Rattle.fin_ast.specs.Sizes.{dims_of};
+ghost use Rattle.fin_ast.specs.Sizes as sizes;
 ghost use Rattle.fin_dims.specs.Settled.{extent_of};
 
 use crate::breach::broken;
@@ -48,14 +51,14 @@ impl Classes {
 
     /// The first tensor with a dimension without extent, or loop without one.
     pub fn first_unknown(&self, headers: &[Header], places: &[Place]) -> Option<Refusal>
-        ensures { result ≡ first_unknown_of (extent_of self.now) headers.now places.now }
+        ensures { result ≡ sizes.first_unknown (extent_of self.now) headers.now places.now }
     {
         self.unknown_in_headers(headers)
             .or(self.unknown_in_places(places))
     }
 
     fn unknown_in_headers(&self, headers: &[Header]) -> Option<Refusal>
-        ensures { result ≡ first_from (unknown_header (extent_of self.now)) 0 headers.now }
+        ensures { result ≡ first_from (sizes.unknown_in_header (extent_of self.now)) 0 headers.now }
     {
         for tensor in 0..headers.len() {
             if let Some(refusal) = self.unknown_in_header(tensor, &headers[tensor]) {
@@ -67,7 +70,7 @@ impl Classes {
 
     fn unknown_in_header(&self, tensor: usize, header: &Header) -> Option<Refusal>
         requires { tensor < 2 ^ 58 }
-        ensures { result ≡ unknown_header (extent_of self.now) tensor header.now }
+        ensures { result ≡ sizes.unknown_in_header (extent_of self.now) tensor header.now }
     {
         let lacks = self.lacks_extent(8 * tensor, header.format.levels.as_slice());
         broken(lacks, Rule::M2, header.line)
@@ -75,7 +78,7 @@ impl Classes {
 
     fn lacks_extent(&self, dimension: usize, levels: &[Level]) -> bool
         requires { dimension < 2 ^ 61 }
-        ensures { result ≡ lacks (extent_of self.now) dimension levels.now }
+        ensures { result ≡ sizes.lacks_extent (extent_of self.now) dimension levels.now }
     {
         let mut at = dimension;
         for _level in levels {
@@ -88,7 +91,7 @@ impl Classes {
     }
 
     fn unknown_in_places(&self, places: &[Place]) -> Option<Refusal>
-        ensures { result ≡ first_of (unknown_place (extent_of self.now)) places.now }
+        ensures { result ≡ first_of (sizes.unknown_in_place (extent_of self.now)) places.now }
     {
         for place in places {
             if let Some(refusal) = self.unknown_in_place(place) {
@@ -99,7 +102,7 @@ impl Classes {
     }
 
     fn unknown_in_place(&self, place: &Place) -> Option<Refusal>
-        ensures { result ≡ unknown_place (extent_of self.now) place.now }
+        ensures { result ≡ sizes.unknown_in_place (extent_of self.now) place.now }
     {
         match place {
             Place::Loop {
@@ -160,7 +163,7 @@ impl Classes {
     }
 
     fn range_of(&self, place: &Place) -> Option<(u64, u64)>
-        ensures { result ≡ range_of_place (extent_of self.now) place.now }
+        ensures { result ≡ sizes.range_of (extent_of self.now) place.now }
     {
         match place {
             Place::Loop {
@@ -184,7 +187,7 @@ impl Classes {
 
     /// The first index that leaves its extent.
     pub fn first_outside(&self, ranges: &[(u64, u64)], places: &[Place]) -> Option<Refusal>
-        ensures { result ≡ first_of (outside_extent (extent_of self.now) ranges.now) places.now }
+        ensures { result ≡ first_of (sizes.outside (extent_of self.now) ranges.now) places.now }
     {
         for place in places {
             if let Some(refusal) = self.outside(ranges, place) {
@@ -195,7 +198,7 @@ impl Classes {
     }
 
     fn outside(&self, ranges: &[(u64, u64)], place: &Place) -> Option<Refusal>
-        ensures { result ≡ outside_extent (extent_of self.now) ranges.now place.now }
+        ensures { result ≡ sizes.outside (extent_of self.now) ranges.now place.now }
     {
         match place {
             Place::Use {
@@ -224,7 +227,7 @@ fn push_range(ranges: &mut Seq<(u64, u64)>, range: Option<(u64, u64)>) -> Result
 
 /// The first tensor whose dense extents are too large.
 pub fn first_dense(headers: &[Header], shapes: &[Nums]) -> Option<Refusal>
-    ensures { result ≡ first_dense_of headers.now shapes.now }
+    ensures { result ≡ sizes.first_dense headers.now shapes.now }
 {
     for tensor in 0..headers.len().min(shapes.len()) {
         if let Some(refusal) = too_dense(&headers[tensor], &shapes[tensor]) {
@@ -235,14 +238,14 @@ pub fn first_dense(headers: &[Header], shapes: &[Nums]) -> Option<Refusal>
 }
 
 fn too_dense(header: &Header, shape: &Nums) -> Option<Refusal>
-    ensures { result ≡ dense_breach header.now shape.now }
+    ensures { result ≡ sizes.too_dense header.now shape.now }
 {
     let is_small = has_small_dense_size(header.format.levels.as_slice(), shape.as_slice());
     broken(!is_small, Rule::B1, header.line)
 }
 
 fn range_at(ranges: &[(u64, u64)], first: Option<u32>) -> (u64, u64)
-    ensures { result ≡ range_of_first ranges.now first }
+    ensures { result ≡ sizes.range_at ranges.now first }
 {
     match first {
         None => (0, 1),
@@ -254,7 +257,7 @@ fn range_at(ranges: &[(u64, u64)], first: Option<u32>) -> (u64, u64)
 }
 
 fn leaves(offset: i64, range: (u64, u64), extent: u64) -> bool
-    ensures { result ≡ leaves_extent offset range extent }
+    ensures { result ≡ sizes.leaves offset range extent }
 {
     let n = offset.unsigned_abs();
     if offset >= 0 {
@@ -265,14 +268,14 @@ fn leaves(offset: i64, range: (u64, u64), extent: u64) -> bool
 }
 
 fn leaves_above(n: u64, range: (u64, u64), extent: u64) -> bool
-    ensures { result ≡ leaves_extent (pos n) range extent }
+    ensures { result ≡ sizes.leaves (pos n) range extent }
 {
     range.0 < range.1 && (extent < n || extent - n < range.1)
 }
 
 fn leaves_below(n: u64, range: (u64, u64), extent: u64) -> bool
     requires { 0 < n }
-    ensures { result ≡ leaves_extent (negsuc (n - 1)) range extent }
+    ensures { result ≡ sizes.leaves (negsuc (n - 1)) range extent }
 {
     range.0 < range.1 && (range.0 < n || extent < range.1 - n)
 }

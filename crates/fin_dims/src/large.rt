@@ -1,7 +1,8 @@
 //! Numbers that are too large, and empty ranges.
 ghost use Rattle.std.specs.Prelude.{◌≡◌};
 ghost use Rattle.std.specs.List.{list_any};
-ghost use Rattle.fin_ast.specs.Sizes.{is_large as is_large_number, has_large as has_large_number, large_in_header as header_breach, large_in_place as place_breach, first_large as first_breach, first_of};
+ghost use Rattle.fin_ast.specs.Sizes.{first_of};
+ghost use Rattle.fin_ast.specs.Sizes as sizes;
 
 use crate::breach::broken;
 use fin_ast::{Header, Place};
@@ -10,13 +11,13 @@ use fin_tensor::Nums;
 
 /// The first range that doesn't end above its beginning, or number over 2^40.
 pub fn first_large(headers: &[Header], places: &[Place]) -> Option<Refusal>
-    ensures { result ≡ first_breach headers.now places.now }
+    ensures { result ≡ sizes.first_large headers.now places.now }
 {
     large_in_headers(headers).or(large_in_places(places))
 }
 
 fn large_in_headers(headers: &[Header]) -> Option<Refusal>
-    ensures { result ≡ first_of header_breach headers.now }
+    ensures { result ≡ first_of sizes.large_in_header headers.now }
 {
     for header in headers {
         if let Some(refusal) = large_in_header(header) {
@@ -27,13 +28,13 @@ fn large_in_headers(headers: &[Header]) -> Option<Refusal>
 }
 
 fn large_in_header(header: &Header) -> Option<Refusal>
-    ensures { result ≡ header_breach header.now }
+    ensures { result ≡ sizes.large_in_header header.now }
 {
     broken(has_large(&header.shape), Rule::M5, header.line)
 }
 
 fn has_large(shape: &Option<Nums>) -> bool
-    ensures { result ≡ has_large_number shape.now }
+    ensures { result ≡ sizes.has_large shape.now }
 {
     match shape {
         Some(shape) => any_large(shape.as_slice()),
@@ -42,7 +43,7 @@ fn has_large(shape: &Option<Nums>) -> bool
 }
 
 fn any_large(numbers: &[u64]) -> bool
-    ensures { result ≡ list_any is_large_number numbers.now }
+    ensures { result ≡ list_any sizes.is_large numbers.now }
 {
     for n in numbers {
         if is_large(*n) {
@@ -53,7 +54,7 @@ fn any_large(numbers: &[u64]) -> bool
 }
 
 fn large_in_places(places: &[Place]) -> Option<Refusal>
-    ensures { result ≡ first_of place_breach places.now }
+    ensures { result ≡ first_of sizes.large_in_place places.now }
 {
     for place in places {
         if let Some(refusal) = large_in_place(place) {
@@ -64,7 +65,7 @@ fn large_in_places(places: &[Place]) -> Option<Refusal>
 }
 
 fn large_in_place(place: &Place) -> Option<Refusal>
-    ensures { result ≡ place_breach place.now }
+    ensures { result ≡ sizes.large_in_place place.now }
 {
     match place {
         Place::Loop {
@@ -91,7 +92,7 @@ fn large_in_place(place: &Place) -> Option<Refusal>
 }
 
 fn is_large(n: u64) -> bool
-    ensures { result ≡ is_large_number n }
+    ensures { result ≡ sizes.is_large n }
 {
     n > 1_099_511_627_776
 }

@@ -18,7 +18,8 @@ use std::alloc::Global;
 pub fn classes_of(alloc: Global, shapes: &[Option<Nums>], places: &[Place]) -> Result<Classes, Fail>
     ensures even { IfOk result (λ c. ¬ IsUneven shapes.now (ties_of places.now)) }
     ensures extents { IfOk result (λ c. AreExtents shapes.now (ties_of places.now) (extent_of c)) }
-    ensures refused { IfErr result (λ e. IfRefused e (λ r. (r.rule ≡ M1) × IsFirstUneven shapes.now (ties_of places.now) r.line)) }
+    ensures refused { let ties = ties_of places.now in
+        IfErr result (λ e. IfRefused e (λ r. (r.rule ≡ M1) × IsFirstUneven shapes.now ties r.line)) }
 {
     let flags = open_loops(alloc, places)?;
     let ties = ties_by_line(alloc, places, flags.as_slice())?;

@@ -48,7 +48,8 @@ impl Classes {
     fn add_dimension(&mut self, shapes: &[Option<Nums>], dimension: usize) -> Result<(), AllocError>
         ensures anchors { self.new.anchors.items ≡ self.old.anchors.items }
         ensures labels { OnOk result (self.new.labels.items ≡ self.old.labels.items ++ dimension ∷ []) }
-        ensures numbers { OnOk result (self.new.numbers.items ≡ self.old.numbers.items ++ known shapes.now dimension ∷ []) }
+        ensures numbers { let number = known shapes.now dimension in
+            OnOk result (self.new.numbers.items ≡ self.old.numbers.items ++ number ∷ []) }
     {
         self.labels.push(dimension)?;
         self.numbers.push(known_number(shapes, dimension))?;

@@ -38,7 +38,8 @@ fn raise(flags: &mut Vec<bool>, var: u32) -> Result<(), AllocError>
 
 /// The ties, in the order of their lines, of the loops with a flag.
 pub fn ties_by_line(alloc: Global, places: &[Place], flags: &[bool]) -> Result<Vec<Tie>, AllocError>
-    ensures same { IfOk result (λ ties. IsPermutation (filter_map (tie_at_place (flag_of flags.now)) places.now) ties.items) }
+    ensures same { let tied = filter_map (tie_at_place (flag_of flags.now)) places.now in
+        IfOk result (λ ties. IsPermutation tied ties.items) }
     ensures sorted { IfOk result (λ ties. IsNonDecreasingBy (λ t. t.line) ties.items) }
 {
     let mut ties = ties(alloc, places, flags)?;
