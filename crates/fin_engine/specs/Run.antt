@@ -4,20 +4,30 @@ use Rattle.fin_base.specs.declared.refusal.Fail.{Fail}
 use Rattle.fin_base.specs.declared.refusal.Fail.TheVariants.{Refused, Memory}
 use Rattle.fin_base.specs.declared.refusal.Rule.TheVariants.{W1}
 use Rattle.fin_tensor.specs.Canon.{IsCanon, undecorated}
+use Rattle.fin_tensor.specs.declared.outputs.Outputs.{Outputs}
 use Rattle.fin_tensor.specs.declared.storage.Storage.{Storage}
 use Rattle.fin_ast.specs.declared.header.Header.{Header}
 use Rattle.fin_ast.specs.declared.checked.Checked.{Checked}
 use Rattle.fin_ast.specs.Dense.{function_of}
 use Rattle.fin_ast.specs.Kinds.{is_output}
 use Rattle.fin_dense.specs.Plain.{AreStored, outputs_from}
+use Rattle.fin_ir.specs.declared.layout.Plan.{Plan}
+use Rattle.fin_ir.specs.Machine.{Machine}
+use Rattle.fin_ir.specs.Meaning.{meaning}
 use Rattle.fin_stage.specs.Staged.{coordinate_work}
 use Rattle.fin_run.specs.declared.state.Held.{Held}
+use Rattle.fin_run.specs.declared.state.State.{State}
+use Rattle.fin_run.specs.States.{machine}
 use Rattle.fin_run.specs.Storages.{storage_in}
 use Rattle.fin_engine.specs.declared.run.Done.{Done}
 
+-- the outputs are the canonical storages of what dense evaluation gives
+abbrev pub StoresAll : Checked → List Storage → Outputs → Type 0
+StoresAll c inputs outputs = AreStored (function_of c inputs) (outputs_from 0 c.program.headers) outputs.tensors
+
 -- the outputs are those of dense evaluation, and the work is the program's, coordinate by coordinate, and within the budget
 pub record IsDone (c : Checked) (inputs : List Storage) (budget : ℕ) (done : Done) : Type 0 where
-  pub stored : AreStored (function_of c inputs) (outputs_from 0 c.program.headers) done.outputs.tensors
+  pub stored : StoresAll c inputs done.outputs
   pub work : done.work ≡ coordinate_work c inputs
   pub within : coordinate_work c inputs ≤ budget
 
@@ -45,3 +55,13 @@ HoldsOutputs c inputs held n = (tensor : ℕ) (h : Header) → n ≤ tensor → 
 abbrev pub IsFront : Checked → List Storage → ℕ → List (ℕ × Storage) → Type 0
 IsFront c inputs n front = (os : List (ℕ × Storage)) → AreStored (function_of c inputs) (outputs_from n (drop n c.program.headers)) os
     → AreStored (function_of c inputs) (outputs_from 0 c.program.headers) (front ++ os)
+
+-- ---- the run of a plan from a state
+
+-- what a state is, before any turn
+abbrev pub begun : List Storage → State → Machine
+begun inputs s = machine inputs s 0
+
+-- what the code of a plan makes of it
+abbrev pub left_by : Plan → Machine → Machine
+left_by plan m = meaning plan.layout plan.code m

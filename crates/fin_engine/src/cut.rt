@@ -16,7 +16,8 @@ pub(crate) struct Parts<'a> {
 pub(crate) fn cut(text: &[u8]) -> Option<Parts<'_>>
     requires { length text.now ≤ 2 ^ 24 }
     ensures parts { MatchOption result (IsEndless text.now) (λ p. IsCut text.now p.program.now p.tensors.now p.last) }
-    ensures shorter { IfSome result (λ p. (length p.program.now ≤ length text.now) × (length p.tensors.now ≤ length text.now)) }
+    ensures shorter { let most = length text.now in
+        IfSome result (λ p. (length p.program.now ≤ most) × (length p.tensors.now ≤ most)) }
 {
     let mut at = 0;
     let mut last = 1;
@@ -43,7 +44,8 @@ fn cut_at_end(text: &[u8], at: usize, last: u32) -> Option<Parts<'_>>
     requires reached { IsReached text.now at last }
     requires ended { All (λ b. b ≢ 10) (drop at text.now) }
     ensures parts { MatchOption result (IsEndless text.now) (λ p. IsCut text.now p.program.now p.tensors.now p.last) }
-    ensures shorter { IfSome result (λ p. (length p.program.now ≤ length text.now) × (length p.tensors.now ≤ length text.now)) }
+    ensures shorter { let most = length text.now in
+        IfSome result (λ p. (length p.program.now ≤ most) × (length p.tensors.now ≤ most)) }
 {
     if &text[at..] == END {
         Some(Parts {

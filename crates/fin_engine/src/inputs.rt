@@ -13,8 +13,8 @@ use fin_text::Given;
 use indexmap::IndexMap;
 use std::alloc::{AllocError, Global};
 
-/// `X6` at the header of an input that has no tensor, or else at the first line of a tensor that is that of no input, or
-/// has another format or fill than its header.
+/// `X6` at the header of an input that has no tensor, or else at the first line of a tensor that is that of no input,
+/// or has another format or fill than its header.
 pub(crate) fn unmatched(headers: &[Header], given: &IndexMap<Name, Given>) -> Option<Refusal>
     ensures first { result ≡ spec.unmatched headers.now given.now.entries }
 {

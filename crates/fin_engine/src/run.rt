@@ -2,16 +2,13 @@
 ghost use Rattle.std.specs.Prelude.{◌≡◌, ◌+◌, ◌<◌, ◌≤◌, ◌^◌, ℕ, IfOk, IfErr, IsErrOf, OnOk, Some, slice_get};
 ghost use Rattle.fin_tensor.specs.declared.storage.Storage.{Storage};
 ghost use Rattle.fin_ast.specs.Accepted.{FitProgram, IsAccepted};
-ghost use Rattle.fin_ast.specs.Dense.{function_of};
-ghost use Rattle.fin_ir.specs.Meaning.{meaning};
 ghost use Rattle.fin_run.specs.Ends.{IsRegular};
 ghost use Rattle.fin_run.specs.States.{machine};
 ghost use Rattle.fin_run.specs.Storages.{storage_in};
 ghost use Rattle.fin_lower.specs.Plans.{plan_of};
 ghost use Rattle.fin_stage.specs.Staged.{coordinate_work};
 ghost use Rattle.fin_ast.specs.Kinds.{is_output as is_output_kind};
-ghost use Rattle.fin_dense.specs.Plain.{AreStored, outputs_from};
-ghost use Rattle.fin_engine.specs.Run.{HoldsOutputs, IsFront, IsSpent, RunsOne};
+ghost use Rattle.fin_engine.specs.Run.{HoldsOutputs, IsFront, IsSpent, RunsOne, StoresAll, begun, left_by};
 
 use crate::job::Job;
 use fin_ast::{Header, Kind};
@@ -34,8 +31,8 @@ pub struct Done {
 
 /// Runs a job by its loop code, within a budget of work.
 ///
-/// The outputs are the canonical storages of what dense evaluation gives, and the work is that of the program, coordinate
-/// by coordinate.
+/// The outputs are the canonical storages of what dense evaluation gives, and the work is that of the program,
+/// coordinate by coordinate.
 ///
 /// # Errors
 ///
@@ -87,10 +84,12 @@ fn uncounted(
 ) -> Result<(), RunError>
     requires budget { budget ≤ 2 ^ 40 }
     requires work { state.old.work ≡ 0 }
-    requires regular { IsRegular (meaning plan.now.layout plan.now.code) (machine inputs.now state.old 0) }
-    ensures leaves { (turns : ℕ) × OnOk result (machine inputs.now state.new turns ≡ meaning plan.now.layout plan.now.code (machine inputs.now state.old 0)) }
-    ensures within { OnOk result ((meaning plan.now.layout plan.now.code (machine inputs.now state.old 0)).charges ≤ budget) }
-    ensures spent { IsErrOf result RunError.Spent → budget < (meaning plan.now.layout plan.now.code (machine inputs.now state.old 0)).charges }
+    requires regular { IsRegular (left_by plan.now) (begun inputs.now state.old) }
+    ensures leaves { let left = left_by plan.now (begun inputs.now state.old) in
+        (turns : ℕ) × OnOk result (machine inputs.now state.new turns ≡ left) }
+    ensures within { OnOk result ((left_by plan.now (begun inputs.now state.old)).charges ≤ budget) }
+    ensures spent { let left = left_by plan.now (begun inputs.now state.old) in
+        IsErrOf result RunError.Spent → budget < left.charges }
 {
     counted::<Brand>(Blank::new(1), alloc, plan, inputs, state, budget)
 }
@@ -109,10 +108,12 @@ fn counted<L: Ledger>(
     requires some { 0 < blank.parts }
     requires budget { budget ≤ 2 ^ 40 }
     requires work { state.old.work ≡ 0 }
-    requires regular { IsRegular (meaning plan.now.layout plan.now.code) (machine inputs.now state.old 0) }
-    ensures leaves { (turns : ℕ) × OnOk result (machine inputs.now state.new turns ≡ meaning plan.now.layout plan.now.code (machine inputs.now state.old 0)) }
-    ensures within { OnOk result ((meaning plan.now.layout plan.now.code (machine inputs.now state.old 0)).charges ≤ budget) }
-    ensures spent { IsErrOf result RunError.Spent → budget < (meaning plan.now.layout plan.now.code (machine inputs.now state.old 0)).charges }
+    requires regular { IsRegular (left_by plan.now) (begun inputs.now state.old) }
+    ensures leaves { let left = left_by plan.now (begun inputs.now state.old) in
+        (turns : ℕ) × OnOk result (machine inputs.now state.new turns ≡ left) }
+    ensures within { OnOk result ((left_by plan.now (begun inputs.now state.old)).charges ≤ budget) }
+    ensures spent { let left = left_by plan.now (begun inputs.now state.old) in
+        IsErrOf result RunError.Spent → budget < left.charges }
 {
     let mut steps = Steps::<L>::new(blank);
     run_code(
@@ -129,7 +130,7 @@ fn counted<L: Ledger>(
 // The storages of the outputs, in the order of headers.
 fn outputs_of(alloc: Global, job: &Job, tensors: Vec<Held>) -> Result<Outputs, AllocError>
     requires held { HoldsOutputs job.now.checked job.now.inputs tensors.items 0 }
-    ensures stored { IfOk result (λ o. AreStored (function_of job.now.checked job.now.inputs) (outputs_from 0 job.now.checked.program.headers) o.tensors) }
+    ensures stored { IfOk result (StoresAll job.now.checked job.now.inputs) }
 {
     let mut tensors = tensors;
     let mut outputs = Seq::new(alloc);

@@ -78,8 +78,8 @@ fn check_program(
     })
 }
 
-/// The extents of a program after insertion, which breaks no rule on the life of tensors, on extents, and on the order of
-/// updates.
+/// The extents of a program after insertion, which breaks no rule on the life of tensors, on extents, and on the
+/// order of updates.
 fn check_whole(alloc: Global, whole: &Program, shapes: &[Option<Nums>]) -> Result<Dims, Fail>
     requires shapes { length shapes.now ≡ length whole.now.headers }
     ensures verdict { ChecksWhole whole.now shapes.now result }
