@@ -17,6 +17,10 @@ pub record Across : Type 0 where
 abbrev pub across : Option (List ℕ) → Option (List ℕ) → ℕ → ℕ → Across
 across before after faults later = record { before = before; after = after; faults = faults; later_faults = later }
 
+-- a port in two states, by what tells its bytes and its count of faults
+abbrev pub over : {A : Type 0} → (A → Option (List ℕ)) → (A → ℕ) → A → A → Across
+over bytes faults old new = across (bytes old) (bytes new) (faults old) (faults new)
+
 -- its count of faults rose
 abbrev pub Failed : Across → Type 0
 Failed port = Rose port.faults port.later_faults

@@ -10,7 +10,7 @@ use Rattle.fin_engine.specs.Verdict.{IsJob}
 use Rattle.fin_engine.specs.declared.job.Job.{Job}
 use Rattle.fin_tensor.specs.declared.outputs.Outputs.{Outputs}
 use Rattle.fin_cli.specs.Due.{Due, IsDue, IsRun, outputs_text, usage}
-use Rattle.fin_cli.specs.Ends.{Across, Failed, Took}
+use Rattle.fin_cli.specs.Ends.{Across, Failed, Serves, Took}
 
 -- The outputs of a job in a mode that writes some: the canonical storages of the functions that dense evaluation gives. In `run`
 -- the work is within the budget, in `plain` few loop turns are made.
@@ -51,3 +51,13 @@ HasCauses source out err status = (status ≡ 3 → Failed source) × (status �
 -- With status 1, 2 or 3 the output took nothing.
 abbrev pub IsSilent : Across → ℕ → Type 0
 IsSilent out status = 1 ≤ status → status ≤ 3 → Took out []
+
+-- All of it, for all words.
+pub record Promises (asked : Option Asked) (source out err : Across) (status : ℕ) : Type 0 where
+  pub headline : WritesExactly Run asked source out status
+  pub plain : WritesExactly Plain asked source out status
+  pub completeness : Completes asked source out err status
+  pub usage : UsesExactly asked source out err status
+  pub causes : HasCauses source out err status
+  pub silent : IsSilent out status
+  pub serves : Serves asked source out err status

@@ -2,7 +2,7 @@
 ghost use Rattle.std.specs.Prelude.{◌≡◌, ◌⊎◌, ◌≤◌, ◌++◌, [], IfOk, string_bytes, take};
 ghost use Rattle.fin_ports.specs.Causes.{Rose};
 ghost use Rattle.fin_cli.specs.Due.{refusal_text, rule_text, usage, read_fault, write_fault, out_of_memory};
-ghost use Rattle.fin_cli.specs.Ends.{Tells, Tries, across};
+ghost use Rattle.fin_cli.specs.Ends.{Tells, Tries, over};
 
 use fin_base::{Refusal, Rule};
 use fin_ports::{Failed, Sink, put_all};
@@ -19,7 +19,7 @@ pub(crate) const OUT_OF_MEMORY: &[u8] = b"out of memory\n";
 
 /// Puts the line, and answers the status; where that fails, says so.
 pub(crate) fn tell<E: Sink>(err: &mut E, line: &[u8], status: u8) -> u8
-    ensures tells { Tells (across (E.taken err.old) (E.taken err.new) (E.faults err.old) (E.faults err.new)) line.now status result }
+    ensures tells { Tells (over E.taken E.faults err.old err.new) line.now status result }
     ensures later { E.Later err.old err.new }
 {
     match put_all(err, line) {
@@ -33,7 +33,7 @@ pub(crate) fn tell<E: Sink>(err: &mut E, line: &[u8], status: u8) -> u8
 
 /// Puts a line, as far as that goes.
 pub(crate) fn try_to_tell<E: Sink>(err: &mut E, line: &[u8])
-    ensures tries { Tries (across (E.taken err.old) (E.taken err.new) (E.faults err.old) (E.faults err.new)) line.now }
+    ensures tries { Tries (over E.taken E.faults err.old err.new) line.now }
     ensures counted { E.faults err.old ≤ E.faults err.new }
     ensures later { E.Later err.old err.new }
 {

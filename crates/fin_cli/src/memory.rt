@@ -8,8 +8,8 @@ use crate::finch_one;
 use fin_ports::{MemSink, MemSource};
 use std::alloc::Global;
 
-/// `finch_one` over a source and sinks that no call was told to fail, with room for what is due: it ends as it is due, or by
-/// want of memory.
+/// `finch_one` over a source and sinks that no call was told to fail, with room for what is due: it ends as it is due,
+/// or by want of memory.
 pub fn finch_in_memory(
     alloc: Global,
     words: &[String],
@@ -19,9 +19,12 @@ pub fn finch_in_memory(
 ) -> u8
     requires one { asks_workers (map string_bytes words.now) ≡ false }
     requires source { IsReliable source.old }
-    requires out { (due : Due) → IsDue (reading (map string_bytes words.now)) (left_of source.old) due → HasRoom out.old (length due.out) }
-    requires err { (due : Due) → IsDue (reading (map string_bytes words.now)) (left_of source.old) due → HasRoom err.old (length due.err + 100) }
-    ensures due { (due : Due) → IsDue (reading (map string_bytes words.now)) (left_of source.old) due → (result ≡ due.status) ⊎ (result ≡ 5) }
+    requires out { (due : Due) → IsDue (reading (map string_bytes words.now)) (left_of source.old) due
+        → HasRoom out.old (length due.out) }
+    requires err { (due : Due) → IsDue (reading (map string_bytes words.now)) (left_of source.old) due
+        → HasRoom err.old (length due.err + 100) }
+    ensures due { (due : Due) → IsDue (reading (map string_bytes words.now)) (left_of source.old) due
+        → (result ≡ due.status) ⊎ (result ≡ 5) }
 {
     finch_one(alloc, words, source, out, err)
 }

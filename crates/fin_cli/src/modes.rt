@@ -1,12 +1,11 @@
 //! The modes, over the bytes of a job.
 ghost use Rattle.std.specs.Prelude.{◌≡◌, ◌≢◌, ◌≤◌, ◌^◌, ℕ, List, length};
 ghost use Rattle.fin_ast.specs.Accepted.{FitProgram, IsAccepted};
-ghost use Rattle.fin_ast.specs.Dense.{function_of};
-ghost use Rattle.fin_dense.specs.Plain.{AreStored, outputs_from};
 ghost use Rattle.fin_ports.specs.Bytes.{most};
+ghost use Rattle.fin_engine.specs.Run.{StoresAll};
 ghost use Rattle.fin_engine.specs.Verdict.{IsJob};
 ghost use Rattle.fin_cli.specs.Due.{Due, IsDuePlain, IsDueRead, IsDueRun, IsDueThen, due_outputs, refusal_text};
-ghost use Rattle.fin_cli.specs.Ends.{Across, across};
+ghost use Rattle.fin_cli.specs.Ends.{Across, over};
 ghost use Rattle.fin_cli.specs.Stops.{Comes, Fails, Refuses};
 
 use crate::line::refusal_text;
@@ -32,7 +31,8 @@ pub(crate) fn serve_job<O: Sink>(
     requires job { length text.items ≤ most }
     requires mode { mode ≢ Mode.Gen }
     requires budget { budget ≤ 2 ^ 40 }
-    ensures comes { (source : Across) → Comes source (across (O.taken out.old) (O.taken out.new) (O.faults out.old) (O.faults out.new)) (IsDueRead text.items (IsDueThen budget mode text.items)) result }
+    ensures comes { let Is = IsDueRead text.items (IsDueThen budget mode text.items) in
+        (source : Across) → Comes source (over O.taken O.faults out.old out.new) Is result }
     ensures later { O.Later out.old out.new }
 {
     let checked = check(alloc, &text);
@@ -56,7 +56,8 @@ fn serve_accepted<O: Sink>(
     requires budget { budget ≤ 2 ^ 40 }
     requires accepted { IsAccepted job.now.checked }
     requires inputs { FitProgram job.now.checked job.now.inputs }
-    ensures comes { (source : Across) (text : List ℕ) → IsJob text job.now → Comes source (across (O.taken out.old) (O.taken out.new) (O.faults out.old) (O.faults out.new)) (IsDueThen budget mode text) result }
+    ensures comes { (source : Across) (text : List ℕ) → IsJob text job.now
+        → Comes source (over O.taken O.faults out.old out.new) (IsDueThen budget mode text) result }
     ensures later { O.Later out.old out.new }
 {
     match mode {
@@ -72,7 +73,8 @@ fn run<O: Sink>(alloc: Global, job: &Job, budget: u64, out: &mut O) -> Result<An
     requires budget { budget ≤ 2 ^ 40 }
     requires accepted { IsAccepted job.now.checked }
     requires inputs { FitProgram job.now.checked job.now.inputs }
-    ensures comes { (source : Across) (text : List ℕ) → IsJob text job.now → Comes source (across (O.taken out.old) (O.taken out.new) (O.faults out.old) (O.faults out.new)) (IsDueRun budget text) result }
+    ensures comes { (source : Across) (text : List ℕ) → IsJob text job.now
+        → Comes source (over O.taken O.faults out.old out.new) (IsDueRun budget text) result }
     ensures later { O.Later out.old out.new }
 {
     match run_job_one(alloc, job, budget) {
@@ -83,7 +85,8 @@ fn run<O: Sink>(alloc: Global, job: &Job, budget: u64, out: &mut O) -> Result<An
 
 // Evaluates a job coordinate by coordinate and writes its outputs.
 fn evaluate<O: Sink>(alloc: Global, job: &Job, out: &mut O) -> Result<Answer, Stop>
-    ensures comes { (source : Across) (text : List ℕ) → IsJob text job.now → Comes source (across (O.taken out.old) (O.taken out.new) (O.faults out.old) (O.faults out.new)) (IsDuePlain text) result }
+    ensures comes { (source : Across) (text : List ℕ) → IsJob text job.now
+        → Comes source (over O.taken O.faults out.old out.new) (IsDuePlain text) result }
     ensures later { O.Later out.old out.new }
 {
     match plain(alloc, &job.checked, job.inputs.as_slice()) {
@@ -94,8 +97,9 @@ fn evaluate<O: Sink>(alloc: Global, job: &Job, out: &mut O) -> Result<Answer, St
 
 // Writes the outputs of a job.
 fn write<O: Sink>(alloc: Global, job: &Job, outputs: &Outputs, out: &mut O) -> Result<Answer, Stop>
-    requires stored { AreStored (function_of job.now.checked job.now.inputs) (outputs_from 0 job.now.checked.program.headers) outputs.now.tensors }
-    ensures comes { (source : Across) → Comes source (across (O.taken out.old) (O.taken out.new) (O.faults out.old) (O.faults out.new)) (λ (due : Due). due ≡ due_outputs job.now outputs.now) result }
+    requires stored { StoresAll job.now.checked job.now.inputs outputs.now }
+    ensures comes { let Is = λ (due : Due). due ≡ due_outputs job.now outputs.now in
+        (source : Across) → Comes source (over O.taken O.faults out.old out.new) Is result }
     ensures later { O.Later out.old out.new }
 {
     let headers = job.checked.program.headers.as_slice();
@@ -111,7 +115,8 @@ fn write<O: Sink>(alloc: Global, job: &Job, outputs: &Outputs, out: &mut O) -> R
 
 // Says that a job breaks no rule.
 fn accept<O: Sink>(alloc: Global, out: &mut O) -> Result<Answer, Stop>
-    ensures comes { (source : Across) (job : List ℕ) → Comes source (across (O.taken out.old) (O.taken out.new) (O.faults out.old) (O.faults out.new)) (IsDueThen 0 Mode.Check job) result }
+    ensures comes { (source : Across) (job : List ℕ)
+        → Comes source (over O.taken O.faults out.old out.new) (IsDueThen 0 Mode.Check job) result }
     ensures later { O.Later out.old out.new }
 {
     match put_all(out, b"ok\n") {

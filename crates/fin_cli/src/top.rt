@@ -3,8 +3,9 @@ ghost use Rattle.std.specs.Prelude.{◌≡◌, ◌≢◌, ◌≤◌, ◌^◌, �
 ghost use Rattle.fin_ports.specs.Bytes.{most};
 ghost use Rattle.fin_words.specs.Reading.{asks_workers, reading};
 ghost use Rattle.fin_cli.specs.Due.{IsDueMode, IsDueRead, IsDueThen, reads_job};
-ghost use Rattle.fin_cli.specs.Ends.{Across, Ends, Reads, Serves, across};
-ghost use Rattle.fin_cli.specs.Promises.{Completes, HasCauses, IsSilent, IsUnasked, UsesExactly, WritesExactly};
+ghost use Rattle.fin_cli.specs.Ends.{Across, Ends, Reads, Serves, over};
+ghost use Rattle.fin_cli.specs.Promises.{Completes, HasCauses, IsSilent, IsUnasked, Promises, UsesExactly};
+ghost use Rattle.fin_cli.specs.Promises.{WritesExactly};
 ghost use Rattle.fin_cli.specs.Stops.{Comes};
 
 use crate::line::{OUT_OF_MEMORY, READ_FAULT, USAGE, WRITE_FAULT, tell, try_to_tell};
@@ -27,28 +28,22 @@ pub fn finch<R: Threads + Wait + Sync, S: Source, O: Sink, E: Sink>(
     err: &mut E,
 ) -> u8
     ensures headline { WritesExactly Mode.Run (reading (map string_bytes words.now))
-        (across (S.left source.old) (S.left source.new) (S.faults source.old) (S.faults source.new))
-        (across (O.taken out.old) (O.taken out.new) (O.faults out.old) (O.faults out.new)) result }
+        (over S.left S.faults source.old source.new) (over O.taken O.faults out.old out.new) result }
     ensures plain { WritesExactly Mode.Plain (reading (map string_bytes words.now))
-        (across (S.left source.old) (S.left source.new) (S.faults source.old) (S.faults source.new))
-        (across (O.taken out.old) (O.taken out.new) (O.faults out.old) (O.faults out.new)) result }
+        (over S.left S.faults source.old source.new) (over O.taken O.faults out.old out.new) result }
     ensures completeness { Completes (reading (map string_bytes words.now))
-        (across (S.left source.old) (S.left source.new) (S.faults source.old) (S.faults source.new))
-        (across (O.taken out.old) (O.taken out.new) (O.faults out.old) (O.faults out.new))
-        (across (E.taken err.old) (E.taken err.new) (E.faults err.old) (E.faults err.new)) result }
+        (over S.left S.faults source.old source.new) (over O.taken O.faults out.old out.new)
+        (over E.taken E.faults err.old err.new) result }
     ensures usage { UsesExactly (reading (map string_bytes words.now))
-        (across (S.left source.old) (S.left source.new) (S.faults source.old) (S.faults source.new))
-        (across (O.taken out.old) (O.taken out.new) (O.faults out.old) (O.faults out.new))
-        (across (E.taken err.old) (E.taken err.new) (E.faults err.old) (E.faults err.new)) result }
+        (over S.left S.faults source.old source.new) (over O.taken O.faults out.old out.new)
+        (over E.taken E.faults err.old err.new) result }
     ensures causes { HasCauses
-        (across (S.left source.old) (S.left source.new) (S.faults source.old) (S.faults source.new))
-        (across (O.taken out.old) (O.taken out.new) (O.faults out.old) (O.faults out.new))
-        (across (E.taken err.old) (E.taken err.new) (E.faults err.old) (E.faults err.new)) result }
-    ensures silent { IsSilent (across (O.taken out.old) (O.taken out.new) (O.faults out.old) (O.faults out.new)) result }
+        (over S.left S.faults source.old source.new) (over O.taken O.faults out.old out.new)
+        (over E.taken E.faults err.old err.new) result }
+    ensures silent { IsSilent (over O.taken O.faults out.old out.new) result }
     ensures serves { Serves (reading (map string_bytes words.now))
-        (across (S.left source.old) (S.left source.new) (S.faults source.old) (S.faults source.new))
-        (across (O.taken out.old) (O.taken out.new) (O.faults out.old) (O.faults out.new))
-        (across (E.taken err.old) (E.taken err.new) (E.faults err.old) (E.faults err.new)) result }
+        (over S.left S.faults source.old source.new) (over O.taken O.faults out.old out.new)
+        (over E.taken E.faults err.old err.new) result }
     ensures later_source { S.Later source.old source.new }
     ensures later_out { O.Later out.old out.new }
     ensures later_err { E.Later err.old err.new }
@@ -74,28 +69,22 @@ pub fn finch_one<S: Source, O: Sink, E: Sink>(
 ) -> u8
     requires { asks_workers (map string_bytes words.now) ≡ false }
     ensures headline { WritesExactly Mode.Run (reading (map string_bytes words.now))
-        (across (S.left source.old) (S.left source.new) (S.faults source.old) (S.faults source.new))
-        (across (O.taken out.old) (O.taken out.new) (O.faults out.old) (O.faults out.new)) result }
+        (over S.left S.faults source.old source.new) (over O.taken O.faults out.old out.new) result }
     ensures plain { WritesExactly Mode.Plain (reading (map string_bytes words.now))
-        (across (S.left source.old) (S.left source.new) (S.faults source.old) (S.faults source.new))
-        (across (O.taken out.old) (O.taken out.new) (O.faults out.old) (O.faults out.new)) result }
+        (over S.left S.faults source.old source.new) (over O.taken O.faults out.old out.new) result }
     ensures completeness { Completes (reading (map string_bytes words.now))
-        (across (S.left source.old) (S.left source.new) (S.faults source.old) (S.faults source.new))
-        (across (O.taken out.old) (O.taken out.new) (O.faults out.old) (O.faults out.new))
-        (across (E.taken err.old) (E.taken err.new) (E.faults err.old) (E.faults err.new)) result }
+        (over S.left S.faults source.old source.new) (over O.taken O.faults out.old out.new)
+        (over E.taken E.faults err.old err.new) result }
     ensures usage { UsesExactly (reading (map string_bytes words.now))
-        (across (S.left source.old) (S.left source.new) (S.faults source.old) (S.faults source.new))
-        (across (O.taken out.old) (O.taken out.new) (O.faults out.old) (O.faults out.new))
-        (across (E.taken err.old) (E.taken err.new) (E.faults err.old) (E.faults err.new)) result }
+        (over S.left S.faults source.old source.new) (over O.taken O.faults out.old out.new)
+        (over E.taken E.faults err.old err.new) result }
     ensures causes { HasCauses
-        (across (S.left source.old) (S.left source.new) (S.faults source.old) (S.faults source.new))
-        (across (O.taken out.old) (O.taken out.new) (O.faults out.old) (O.faults out.new))
-        (across (E.taken err.old) (E.taken err.new) (E.faults err.old) (E.faults err.new)) result }
-    ensures silent { IsSilent (across (O.taken out.old) (O.taken out.new) (O.faults out.old) (O.faults out.new)) result }
+        (over S.left S.faults source.old source.new) (over O.taken O.faults out.old out.new)
+        (over E.taken E.faults err.old err.new) result }
+    ensures silent { IsSilent (over O.taken O.faults out.old out.new) result }
     ensures serves { Serves (reading (map string_bytes words.now))
-        (across (S.left source.old) (S.left source.new) (S.faults source.old) (S.faults source.new))
-        (across (O.taken out.old) (O.taken out.new) (O.faults out.old) (O.faults out.new))
-        (across (E.taken err.old) (E.taken err.new) (E.faults err.old) (E.faults err.new)) result }
+        (over S.left S.faults source.old source.new) (over O.taken O.faults out.old out.new)
+        (over E.taken E.faults err.old err.new) result }
     ensures later_source { S.Later source.old source.new }
     ensures later_out { O.Later out.old out.new }
     ensures later_err { E.Later err.old err.new }
@@ -111,29 +100,9 @@ fn top<S: Source, O: Sink, E: Sink>(
     out: &mut O,
     err: &mut E,
 ) -> u8
-    ensures headline { WritesExactly Mode.Run (reading (map string_bytes words.now))
-        (across (S.left source.old) (S.left source.new) (S.faults source.old) (S.faults source.new))
-        (across (O.taken out.old) (O.taken out.new) (O.faults out.old) (O.faults out.new)) result }
-    ensures plain { WritesExactly Mode.Plain (reading (map string_bytes words.now))
-        (across (S.left source.old) (S.left source.new) (S.faults source.old) (S.faults source.new))
-        (across (O.taken out.old) (O.taken out.new) (O.faults out.old) (O.faults out.new)) result }
-    ensures completeness { Completes (reading (map string_bytes words.now))
-        (across (S.left source.old) (S.left source.new) (S.faults source.old) (S.faults source.new))
-        (across (O.taken out.old) (O.taken out.new) (O.faults out.old) (O.faults out.new))
-        (across (E.taken err.old) (E.taken err.new) (E.faults err.old) (E.faults err.new)) result }
-    ensures usage { UsesExactly (reading (map string_bytes words.now))
-        (across (S.left source.old) (S.left source.new) (S.faults source.old) (S.faults source.new))
-        (across (O.taken out.old) (O.taken out.new) (O.faults out.old) (O.faults out.new))
-        (across (E.taken err.old) (E.taken err.new) (E.faults err.old) (E.faults err.new)) result }
-    ensures causes { HasCauses
-        (across (S.left source.old) (S.left source.new) (S.faults source.old) (S.faults source.new))
-        (across (O.taken out.old) (O.taken out.new) (O.faults out.old) (O.faults out.new))
-        (across (E.taken err.old) (E.taken err.new) (E.faults err.old) (E.faults err.new)) result }
-    ensures silent { IsSilent (across (O.taken out.old) (O.taken out.new) (O.faults out.old) (O.faults out.new)) result }
-    ensures serves { Serves (reading (map string_bytes words.now))
-        (across (S.left source.old) (S.left source.new) (S.faults source.old) (S.faults source.new))
-        (across (O.taken out.old) (O.taken out.new) (O.faults out.old) (O.faults out.new))
-        (across (E.taken err.old) (E.taken err.new) (E.faults err.old) (E.faults err.new)) result }
+    ensures promises { Promises (reading (map string_bytes words.now))
+        (over S.left S.faults source.old source.new) (over O.taken O.faults out.old out.new)
+        (over E.taken E.faults err.old err.new) result }
     ensures later_source { S.Later source.old source.new }
     ensures later_out { O.Later out.old out.new }
     ensures later_err { E.Later err.old err.new }
@@ -150,10 +119,9 @@ fn serve<S: Source, O: Sink, E: Sink>(
     err: &mut E,
 ) -> u8
     ensures serves { Serves (reading (map string_bytes words.now))
-        (across (S.left source.old) (S.left source.new) (S.faults source.old) (S.faults source.new))
-        (across (O.taken out.old) (O.taken out.new) (O.faults out.old) (O.faults out.new))
-        (across (E.taken err.old) (E.taken err.new) (E.faults err.old) (E.faults err.new)) result }
-    ensures unasked { IsUnasked (reading (map string_bytes words.now)) (across (E.taken err.old) (E.taken err.new) (E.faults err.old) (E.faults err.new)) result }
+        (over S.left S.faults source.old source.new) (over O.taken O.faults out.old out.new)
+        (over E.taken E.faults err.old err.new) result }
+    ensures unasked { IsUnasked (reading (map string_bytes words.now)) (over E.taken E.faults err.old err.new) result }
     ensures later_source { S.Later source.old source.new }
     ensures later_out { O.Later out.old out.new }
     ensures later_err { E.Later err.old err.new }
@@ -170,9 +138,11 @@ fn serve<S: Source, O: Sink, E: Sink>(
 
 // The status of an outcome, with its line on the error output.
 fn report<E: Sink>(outcome: Result<Answer, Stop>, err: &mut E) -> u8
-    ensures ends { (source out : Across) (budget : ℕ) (mode : Mode) (job : List ℕ) → Comes source out (IsDueMode budget mode job) outcome
-        → Ends source out (across (E.taken err.old) (E.taken err.new) (E.faults err.old) (E.faults err.new)) (IsDueMode budget mode job) result }
-    ensures finished { (source out : Across) (budget : ℕ) (mode : Mode) (job : List ℕ) → Comes source out (IsDueMode budget mode job) outcome → result ≤ 2 → IsOk outcome }
+    ensures ends { (source out : Across) (budget : ℕ) (mode : Mode) (job : List ℕ)
+        → Comes source out (IsDueMode budget mode job) outcome
+        → Ends source out (over E.taken E.faults err.old err.new) (IsDueMode budget mode job) result }
+    ensures finished { (source out : Across) (budget : ℕ) (mode : Mode) (job : List ℕ)
+        → Comes source out (IsDueMode budget mode job) outcome → result ≤ 2 → IsOk outcome }
     ensures later { E.Later err.old err.new }
 {
     match outcome {
@@ -183,8 +153,9 @@ fn report<E: Sink>(outcome: Result<Answer, Stop>, err: &mut E) -> u8
 
 // The same where there is no answer.
 fn report_stop<E: Sink>(stop: Stop, err: &mut E) -> u8
-    ensures ends { (source out : Across) (budget : ℕ) (mode : Mode) (job : List ℕ) → Comes source out (IsDueMode budget mode job) (Err stop)
-        → Ends source out (across (E.taken err.old) (E.taken err.new) (E.faults err.old) (E.faults err.new)) (IsDueMode budget mode job) result }
+    ensures ends { (source out : Across) (budget : ℕ) (mode : Mode) (job : List ℕ)
+        → Comes source out (IsDueMode budget mode job) (Err stop)
+        → Ends source out (over E.taken E.faults err.old err.new) (IsDueMode budget mode job) result }
     ensures unfinished { 3 ≤ result }
     ensures later { E.Later err.old err.new }
 {
@@ -209,9 +180,9 @@ fn outcome<S: Source, O: Sink>(
     out: &mut O,
 ) -> Result<Answer, Stop>
     requires budget { asked.now.budget ≤ 2 ^ 40 }
-    ensures comes { let from = across (S.left source.old) (S.left source.new) (S.faults source.old) (S.faults source.new) in
+    ensures comes { let from = over S.left S.faults source.old source.new in
         (job : List ℕ) × Reads from (reads_job asked.now.mode) job (IsOk result)
-        × Comes from (across (O.taken out.old) (O.taken out.new) (O.faults out.old) (O.faults out.new)) (IsDueMode asked.now.budget asked.now.mode job) result }
+        × Comes from (over O.taken O.faults out.old out.new) (IsDueMode asked.now.budget asked.now.mode job) result }
     ensures later_source { S.Later source.old source.new }
     ensures later_out { O.Later out.old out.new }
 {
@@ -237,9 +208,9 @@ fn read_and_serve<S: Source, O: Sink>(
 ) -> Result<Answer, Stop>
     requires mode { mode ≢ Mode.Gen }
     requires budget { budget ≤ 2 ^ 40 }
-    ensures comes { let from = across (S.left source.old) (S.left source.new) (S.faults source.old) (S.faults source.new) in
+    ensures comes { let from = over S.left S.faults source.old source.new in
         (job : List ℕ) × Reads from true job (IsOk result)
-        × Comes from (across (O.taken out.old) (O.taken out.new) (O.faults out.old) (O.faults out.new)) (IsDueRead job (IsDueThen budget mode job)) result }
+        × Comes from (over O.taken O.faults out.old out.new) (IsDueRead job (IsDueThen budget mode job)) result }
     ensures later_source { S.Later source.old source.new }
     ensures later_out { O.Later out.old out.new }
 {
