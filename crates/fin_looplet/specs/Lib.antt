@@ -1,0 +1,4 @@
+pub mod Names
+pub mod View
+pub mod Sound
+pub mod Locals

@@ -1,0 +1,12 @@
+//! Looplets: what a read sees along the coordinates of a loop, as data.
+//!
+//! A `Looplet` says in one value how the leaves of a fibre, a mask or a shifted fibre follow one another: runs, spikes,
+//! lookups, sequences, walkers, choices and shifts. `specs/` says what it means: at each coordinate of a region what is
+//! seen there, whether that varies, and whether a part or a walker's child ends behind it; when it is sound; which locals
+//! and tensors it depends on; and what it weighs. Here stand the types, with equal copies.
+#![tactic(auto)]
+
+mod copy;
+mod looplet;
+
+pub use looplet::{Case, Leaf, Looplet, Phase, Walker};
