@@ -2,3 +2,8 @@ pub mod Names
 pub mod View
 pub mod Sound
 pub mod Locals
+pub mod Same
+pub mod Cut
+pub mod Moved
+pub mod Weight
+pub mod Like
