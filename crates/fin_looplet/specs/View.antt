@@ -1,7 +1,9 @@
 -- The meaning of a looplet: what is seen at each coordinate of a region, and where its parts end.
-use Rattle.std.specs.Prelude.{◌≡◌, ℕ, ◌+◌, List, Bool, true, false, ◌||◌, ◌&&◌, if◌then◌else◌, ℤ, pos, ◌+ℤ◌, ◌-ℤ◌, ◌<ℤ◌, int_lt, int_le, slice_set}
+use Rattle.std.specs.Prelude.{◌≡◌, ℕ, ◌+◌, ◌-◌, List, length, filter, Bool, true, false, ◌||◌, ◌&&◌, if◌then◌else◌, ℤ, pos, ◌+ℤ◌, ◌-ℤ◌, ◌<ℤ◌, int_lt, int_le, slice_set}
+use Rattle.std.specs.List.{range_with_len}
 use Rattle.fin_ir.specs.declared.expression.IExpr.{IExpr}
 use Rattle.fin_ir.specs.Machine.{Tensor}
+use Rattle.fin_ir.specs.Meaning.{span}
 use Rattle.fin_ir.specs.Value.{value_of, is_off}
 use Rattle.fin_looplet.specs.declared.looplet.Leaf.{Leaf}
 use Rattle.fin_looplet.specs.declared.looplet.Leaf.TheVariants.{Fill, Value, Sub}
@@ -106,3 +108,7 @@ pub record IsStop (ts : Store) (ls : List ℤ) (l : Looplet) (lo hi at : ℤ) : 
   pub after : lo <ℤ at
   pub before : at <ℤ hi
   pub stops : (view ts ls l hi (at -ℤ pos 1)).stop ≡ true
+
+-- how many stops there are
+abbrev pub stops : Store → List ℤ → Looplet → ℤ → ℤ → ℕ
+stops ts ls l lo hi = length (filter (λ k. (view ts ls l hi (lo +ℤ pos k)).stop) (range_with_len 0 (span lo hi - 1)))
