@@ -1,5 +1,5 @@
 -- When a looplet is sound: each coordinate has a leaf, and walkers go on.
-use Rattle.std.specs.Prelude.{◌≡◌, ◌+◌, ◌⊎◌, List, true, false, ℤ, ◌+ℤ◌, ◌-ℤ◌, ◌≤ℤ◌, ◌<ℤ◌, int_lt, slice_set}
+use Rattle.std.specs.Prelude.{◌≡◌, ◌+◌, ◌^◌, ◌⊎◌, List, true, false, ℤ, pos, negsuc, ◌+ℤ◌, ◌-ℤ◌, ◌≤ℤ◌, ◌<ℤ◌, int_lt, slice_set}
 use Rattle.fin_ir.specs.Value.{is_off}
 use Rattle.fin_looplet.specs.declared.looplet.Looplet.{Looplet, Row_of-Phase, end_of-Phase, more_of-Phase, Row_of-Walker, end_of-Walker, more_of-Walker, Row_of-Case, end_of-Case, more_of-Case, end_of-Looplet, more_of-Looplet}
 use Rattle.fin_looplet.specs.declared.looplet.Looplet.TheVariants.{Run, Spike, Lookup, Sequence', Stepper', Jumper', Switch', Shift'}
@@ -52,3 +52,13 @@ Sound = SoundWithin anywhere
 -- the looplet is sound in a region
 abbrev pub SoundIn : Store → List ℤ → Looplet → ℤ → ℤ → Type 0
 SoundIn ts ls l lo hi = (i : ℤ) → lo ≤ℤ i → i <ℤ hi → Sound ts ls l (λ j. j <ℤ hi) i
+
+-- ---- how far shifts may move
+
+-- a number that differs from the coordinate i by at most 2^42
+abbrev pub Reach : ℤ → Places
+Reach i z = ((i -ℤ pos (2 ^ 42)) ≤ℤ z) × (z ≤ℤ (i +ℤ pos (2 ^ 42)))
+
+-- a coordinate of a region between 0 and 2^40, or a number in reach of one
+abbrev pub Near : Places
+Near z = (negsuc (2 ^ 42) ≤ℤ z) × (z ≤ℤ pos (2 ^ 42 + 2 ^ 41))
