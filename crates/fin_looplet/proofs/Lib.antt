@@ -3,3 +3,8 @@ pub mod Bridges
 pub mod Frame
 pub mod Cuts
 pub mod CutLocals
+pub mod Puts
+pub mod MovedStops
+pub mod Moves
+pub mod MovedLocals
+pub mod Weights

@@ -39,11 +39,12 @@ put_leaf x e' (Value e) = Value (put x e' e)
 put_leaf x e' (Sub tensor level place there) = Sub tensor level (put x e' place) (put x e' there)
 
 -- the local less the distance
-abbrev pub down : ℕ → IExpr → IExpr
-down x by = minus (Local x) by
+abbrev pub lowered : ℕ → IExpr → IExpr
+lowered x by = minus (Local x) by
 
-abbrev pub up : IExpr → IExpr → IExpr
-up by stop = plus (clip stop) by
+-- the stop, brought into range, and the distance
+abbrev pub raised : IExpr → IExpr → IExpr
+raised by stop = plus (clip stop) by
 
 -- ---- looplets
 
@@ -51,7 +52,7 @@ abbrev mutual
   pub moved : IExpr → Looplet → Looplet
   moved by (Run leaf) = Run leaf
   moved by (Spike body tail) = Spike body tail
-  moved by (Lookup coord leaf) = Lookup coord (put_leaf coord (down coord by) leaf)
+  moved by (Lookup coord leaf) = Lookup coord (put_leaf coord (lowered coord by) leaf)
   moved by (Sequence' n phases) = Sequence' n (moved_phases by phases)
   moved by (Stepper' p walker) = Stepper' p (moved_walker by walker)
   moved by (Jumper' p walker) = Jumper' p (moved_walker by walker)
@@ -60,22 +61,22 @@ abbrev mutual
 
   pub moved_phases : {n : _} → IExpr → Row_of-Phase n → Row_of-Phase n
   moved_phases by end_of-Phase = end_of-Phase
-  moved_phases by (more_of-Phase stop child rest) = more_of-Phase (up by stop) (moved by child) (moved_phases by rest)
+  moved_phases by (more_of-Phase stop child rest) = more_of-Phase (raised by stop) (moved by child) (moved_phases by rest)
 
   pub moved_walker : {n : _} → IExpr → Row_of-Walker n → Row_of-Walker n
   moved_walker by end_of-Walker = end_of-Walker
   moved_walker by (more_of-Walker cursor seek stop child rest) =
-      more_of-Walker cursor (put (cursor + 1) (down (cursor + 1) by) seek) (up by stop) (moved by child) (moved_walker by rest)
+      more_of-Walker cursor (put (cursor + 1) (lowered (cursor + 1) by) seek) (raised by stop) (moved by child) (moved_walker by rest)
 
   pub moved_cases : {n : _} → IExpr → Row_of-Case n → Row_of-Case n
   moved_cases by end_of-Case = end_of-Case
   moved_cases by (more_of-Case test child rest) = more_of-Case test (moved by child) (moved_cases by rest)
 
 abbrev pub moved_phase : IExpr → Phase → Phase
-moved_phase by p = record { stop = up by p.stop; child = moved by p.child }
+moved_phase by p = record { stop = raised by p.stop; child = moved by p.child }
 
 abbrev pub moved_one : IExpr → Walker → Walker
-moved_one by w = record { cursor = w.cursor; seek = put (w.cursor + 1) (down (w.cursor + 1) by) w.seek; stop = up by w.stop; child = moved by w.child }
+moved_one by w = record { cursor = w.cursor; seek = put (w.cursor + 1) (lowered (w.cursor + 1) by) w.seek; stop = raised by w.stop; child = moved by w.child }
 
 abbrev pub moved_case : IExpr → Case → Case
 moved_case by c = record { test = c.test; child = moved by c.child }
