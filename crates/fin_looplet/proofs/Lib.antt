@@ -8,3 +8,5 @@ pub mod MovedStops
 pub mod Moves
 pub mod MovedLocals
 pub mod Weights
+pub mod Lists
+pub mod Rows

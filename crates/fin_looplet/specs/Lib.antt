@@ -7,3 +7,4 @@ pub mod Cut
 pub mod Moved
 pub mod Weight
 pub mod Like
+pub mod Lists
