@@ -10,3 +10,5 @@ pub mod MovedLocals
 pub mod Weights
 pub mod Lists
 pub mod Rows
+pub mod Same
+pub mod SameArms

@@ -51,12 +51,12 @@ abbrev pub same_step : IExpr-F (IExpr → Bool) → IExpr → Bool
 same_step (IExpr-F.Num n) (Num m) = int_eq n m
 same_step (IExpr-F.Local x) (Local y) = nat_eq x y
 same_step (IExpr-F.Neg a) (Neg' p (more_of-IExpr d end_of-IExpr)) = a d
-same_step (IExpr-F.Two o a b) (Two' o' p (more_of-IExpr d end_of-IExpr) q (more_of-IExpr e end_of-IExpr)) = same_op o o' && (a d && b e)
-same_step (IExpr-F.Pick a b c) (Pick' p (more_of-IExpr d end_of-IExpr) q (more_of-IExpr e end_of-IExpr) r (more_of-IExpr f end_of-IExpr)) = a d && (b e && c f)
-same_step (IExpr-F.Times by a b) (Times' by' p (more_of-IExpr d end_of-IExpr) q (more_of-IExpr e end_of-IExpr)) = same_reduce by by' && (a d && b e)
-same_step (IExpr-F.Cell tensor level t a) (Cell' tensor' level' t' p (more_of-IExpr d end_of-IExpr)) = nat_eq tensor tensor' && (nat_eq level level' && (same_table t t' && a d))
+same_step (IExpr-F.Two o a b) (Two' o' p (more_of-IExpr d end_of-IExpr) q (more_of-IExpr e end_of-IExpr)) = (same_op o o' && a d) && b e
+same_step (IExpr-F.Pick a b c) (Pick' p (more_of-IExpr d end_of-IExpr) q (more_of-IExpr e end_of-IExpr) r (more_of-IExpr f end_of-IExpr)) = (a d && b e) && c f
+same_step (IExpr-F.Times by a b) (Times' by' p (more_of-IExpr d end_of-IExpr) q (more_of-IExpr e end_of-IExpr)) = (same_reduce by by' && a d) && b e
+same_step (IExpr-F.Cell tensor level t a) (Cell' tensor' level' t' p (more_of-IExpr d end_of-IExpr)) = ((nat_eq tensor tensor' && nat_eq level level') && same_table t t') && a d
 same_step (IExpr-F.Seek tensor level a b c) (Seek' tensor' level' p (more_of-IExpr d end_of-IExpr) q (more_of-IExpr e end_of-IExpr) r (more_of-IExpr f end_of-IExpr)) =
-    nat_eq tensor tensor' && (nat_eq level level' && (a d && (b e && c f)))
+    (((nat_eq tensor tensor' && nat_eq level level') && a d) && b e) && c f
 same_step (IExpr-F.Val tensor a) (Val' tensor' p (more_of-IExpr d end_of-IExpr)) = nat_eq tensor tensor' && a d
 same_step d e = false
 

@@ -8,5 +8,6 @@
 
 mod copy;
 mod looplet;
+mod point;
 
 pub use looplet::{Case, Leaf, Looplet, Phase, Walker};
