@@ -1,0 +1,248 @@
+//! The looplet of a walked fibre.
+ghost use Rattle.std.specs.Prelude.{◌≡◌, ◌+◌, ◌<◌, ◌≤◌, ◌^◌, [], ◌∷◌, IfOk, length};
+ghost use Rattle.fin_ir.specs.declared.expression.IExpr.TheVariants as made;
+ghost use Rattle.fin_unfurl.specs.Walks as spec;
+
+use crate::fibre::Fibre;
+use crate::parts::{begin, cell, end, leaf, next, pick, seek, two};
+use fin_base::Op;
+use fin_ir::{IExpr, Table};
+use fin_looplet::{Case, Leaf, Looplet, Phase, Walker};
+use fin_tensor::Level;
+use sqlite_items::{Boxed, Items};
+use std::alloc::{AllocError, Global};
+
+fn walk(
+    alloc: Global,
+    level: Level,
+    fibre: Fibre,
+    pos: &IExpr,
+) -> Result<Looplet, AllocError>
+    requires extent { fibre.extent ≤ 2 ^ 40 }
+    requires cursor { fibre.cursor + 1 < 2 ^ 32 }
+    ensures { IfOk result (λ l. l ≡ spec.walk_of level fibre pos.now) }
+{
+    match level {
+        Level::Dense => dense(alloc, fibre, pos),
+        Level::List | Level::Dict => list(alloc, fibre, pos),
+        Level::Runs => runs(alloc, fibre, pos),
+        Level::Band => band(alloc, fibre, pos),
+    }
+}
+
+// Spikes up to the last stored coordinate, and then the fill.
+fn list(alloc: Global, fibre: Fibre, pos: &IExpr) -> Result<Looplet, AllocError>
+    requires extent { fibre.extent ≤ 2 ^ 40 }
+    requires cursor { fibre.cursor + 1 < 2 ^ 32 }
+    ensures { IfOk result (λ l. l ≡ spec.list_walk fibre pos.now) }
+{
+    let stop = list_end(alloc, fibre, pos)?;
+    let walker = list_walker(alloc, fibre, pos)?;
+    let walker = Boxed::new(alloc, walker)?;
+    let mut phases = Items::new(alloc);
+    phases.push(Phase {
+        stop,
+        child: Looplet::Stepper(walker),
+    })?;
+    phases.push(rest(fibre))?;
+    Ok(Looplet::Sequence(phases))
+}
+
+fn list_walker(alloc: Global, fibre: Fibre, pos: &IExpr) -> Result<Walker, AllocError>
+    requires cursor { fibre.cursor + 1 < 2 ^ 32 }
+    ensures { IfOk result (λ w. w ≡ spec.list_walker fibre pos.now) }
+{
+    let place = seek(alloc, fibre, pos)?;
+    let stop = list_stop(alloc, fibre, IExpr::Local(fibre.cursor))?;
+    let tail = leaf(alloc, fibre, IExpr::Local(fibre.cursor))?;
+    Ok(Walker {
+        cursor: fibre.cursor,
+        seek: place,
+        stop,
+        child: Looplet::Spike {
+            body: Leaf::Fill(fibre.fill),
+            tail,
+        },
+    })
+}
+
+fn list_stop(alloc: Global, fibre: Fibre, at: IExpr) -> Result<IExpr, AllocError>
+    ensures { IfOk result (λ e. e ≡ spec.list_stop fibre at) }
+{
+    let idx = cell(alloc, fibre, Table::Idx, at)?;
+    next(alloc, idx)
+}
+
+// One after the last stored coordinate, or 0 where none is stored.
+fn list_end(alloc: Global, fibre: Fibre, pos: &IExpr) -> Result<IExpr, AllocError>
+    ensures { IfOk result (λ e. e ≡ spec.list_end fibre pos.now) }
+{
+    let to = end(alloc, fibre, pos)?;
+    let last = two(alloc, Op::Sub, to, IExpr::Num(1))?;
+    let last = list_stop(alloc, fibre, last)?;
+    let some = has_places(alloc, fibre, pos)?;
+    pick(alloc, some, last, IExpr::Num(0))
+}
+
+fn has_places(alloc: Global, fibre: Fibre, pos: &IExpr) -> Result<IExpr, AllocError>
+    ensures { IfOk result (λ e. e ≡ spec.has_places fibre pos.now) }
+{
+    let from = begin(alloc, fibre, pos)?;
+    let to = end(alloc, fibre, pos)?;
+    two(alloc, Op::Lt, from, to)
+}
+
+// The fill up to the extent.
+fn rest(fibre: Fibre) -> Phase
+    requires { fibre.extent ≤ 2 ^ 40 }
+    ensures { result ≡ spec.rest fibre }
+{
+    Phase {
+        stop: IExpr::Num(fibre.extent as i64),
+        child: Looplet::Run(Leaf::Fill(fibre.fill)),
+    }
+}
+
+// One run after another.
+fn runs(alloc: Global, fibre: Fibre, pos: &IExpr) -> Result<Looplet, AllocError>
+    requires cursor { fibre.cursor + 1 < 2 ^ 32 }
+    ensures { IfOk result (λ l. l ≡ spec.runs_walk fibre pos.now) }
+{
+    let walker = runs_walker(alloc, fibre, pos)?;
+    let walker = Boxed::new(alloc, walker)?;
+    Ok(Looplet::Stepper(walker))
+}
+
+fn runs_walker(alloc: Global, fibre: Fibre, pos: &IExpr) -> Result<Walker, AllocError>
+    requires cursor { fibre.cursor + 1 < 2 ^ 32 }
+    ensures { IfOk result (λ w. w ≡ spec.runs_walker fibre pos.now) }
+{
+    let place = seek(alloc, fibre, pos)?;
+    let stop = cell(alloc, fibre, Table::Stop, IExpr::Local(fibre.cursor))?;
+    let run = leaf(alloc, fibre, IExpr::Local(fibre.cursor))?;
+    Ok(Walker {
+        cursor: fibre.cursor,
+        seek: place,
+        stop,
+        child: Looplet::Run(run),
+    })
+}
+
+// A position for each coordinate.
+fn dense(alloc: Global, fibre: Fibre, pos: &IExpr) -> Result<Looplet, AllocError>
+    requires extent { fibre.extent ≤ 2 ^ 40 }
+    requires cursor { fibre.cursor + 1 < 2 ^ 32 }
+    ensures { IfOk result (λ l. l ≡ spec.dense_walk fibre pos.now) }
+{
+    let pos = pos.copy(alloc)?;
+    let first = two(alloc, Op::Mul, pos, IExpr::Num(fibre.extent as i64))?;
+    let place = two(alloc, Op::Add, first, IExpr::Local(fibre.cursor + 1))?;
+    let leaf = leaf(alloc, fibre, place)?;
+    Ok(Looplet::Lookup {
+        coord: fibre.cursor + 1,
+        leaf,
+    })
+}
+
+// The block, with the fill before and behind it.
+fn band(alloc: Global, fibre: Fibre, pos: &IExpr) -> Result<Looplet, AllocError>
+    requires extent { fibre.extent ≤ 2 ^ 40 }
+    requires cursor { fibre.cursor + 1 < 2 ^ 32 }
+    ensures { IfOk result (λ l. l ≡ spec.band_walk fibre pos.now) }
+{
+    let stop = block_begin(alloc, fibre, pos)?;
+    let block = block(alloc, fibre, pos)?;
+    let mut phases = Items::new(alloc);
+    phases.push(Phase {
+        stop,
+        child: Looplet::Run(Leaf::Fill(fibre.fill)),
+    })?;
+    phases.push(block)?;
+    phases.push(rest(fibre))?;
+    Ok(Looplet::Sequence(phases))
+}
+
+fn block(alloc: Global, fibre: Fibre, pos: &IExpr) -> Result<Phase, AllocError>
+    requires cursor { fibre.cursor + 1 < 2 ^ 32 }
+    ensures { IfOk result (λ b. b ≡ spec.block fibre pos.now) }
+{
+    let stop = block_end(alloc, fibre, pos)?;
+    let place = block_place(alloc, fibre, pos)?;
+    let leaf = leaf(alloc, fibre, place)?;
+    Ok(Phase {
+        stop,
+        child: Looplet::Lookup {
+            coord: fibre.cursor + 1,
+            leaf,
+        },
+    })
+}
+
+// The block's first coordinate. One that is empty stands nowhere, whatever its start is.
+fn block_begin(alloc: Global, fibre: Fibre, pos: &IExpr) -> Result<IExpr, AllocError>
+    ensures { IfOk result (λ e. e ≡ spec.block_begin fibre pos.now) }
+{
+    let some = has_places(alloc, fibre, pos)?;
+    let start = start(alloc, fibre, pos)?;
+    pick(alloc, some, start, IExpr::Num(0))
+}
+
+fn block_end(alloc: Global, fibre: Fibre, pos: &IExpr) -> Result<IExpr, AllocError>
+    ensures { IfOk result (λ e. e ≡ spec.block_end fibre pos.now) }
+{
+    let first = block_begin(alloc, fibre, pos)?;
+    let to = end(alloc, fibre, pos)?;
+    let from = begin(alloc, fibre, pos)?;
+    let long = two(alloc, Op::Sub, to, from)?;
+    two(alloc, Op::Add, first, long)
+}
+
+fn block_place(alloc: Global, fibre: Fibre, pos: &IExpr) -> Result<IExpr, AllocError>
+    requires cursor { fibre.cursor + 1 < 2 ^ 32 }
+    ensures { IfOk result (λ e. e ≡ spec.block_place fibre pos.now) }
+{
+    let from = begin(alloc, fibre, pos)?;
+    let start = start(alloc, fibre, pos)?;
+    let behind = two(alloc, Op::Sub, IExpr::Local(fibre.cursor + 1), start)?;
+    two(alloc, Op::Add, from, behind)
+}
+
+fn start(alloc: Global, fibre: Fibre, pos: &IExpr) -> Result<IExpr, AllocError>
+    ensures { IfOk result (λ e. e ≡ spec.start fibre pos.now) }
+{
+    let pos = pos.copy(alloc)?;
+    cell(alloc, fibre, Table::Start, pos)
+}
+
+// The walk where the position is there, else the fill.
+fn guarded(
+    alloc: Global,
+    fibre: Fibre,
+    there: IExpr,
+    walk: Looplet,
+) -> Result<Looplet, AllocError>
+    ensures { IfOk result (λ l. l ≡ spec.guarded fibre there walk) }
+{
+    if is_there(&there) {
+        return Ok(walk);
+    }
+    let mut cases = Items::new(alloc);
+    cases.push(Case {
+        test: there,
+        child: walk,
+    })?;
+    cases.push(Case {
+        test: IExpr::Num(1),
+        child: Looplet::Run(Leaf::Fill(fibre.fill)),
+    })?;
+    Ok(Looplet::Switch(cases))
+}
+
+fn is_there(there: &IExpr) -> bool
+    ensures { result ≡ spec.is_there there.now }
+{
+    match there {
+        IExpr::Num(n) => *n != 0,
+        _ => false,
+    }
+}
