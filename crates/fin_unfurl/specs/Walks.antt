@@ -1,5 +1,5 @@
 -- The looplets of walked fibres.
-use Rattle.std.specs.Prelude.{ℕ, ◌+◌, [], ◌∷◌, ℤ, pos, negsuc, Bool, true, false, not, if◌then◌else◌}
+use Rattle.std.specs.Prelude.{ℕ, ◌+◌, min, nat_eq, List, [], ◌∷◌, length, Option, Some, None, ℤ, pos, Bool, true, false, not, if◌then◌else◌}
 use Rattle.fin_base.specs.declared.terms.Op.TheVariants as op
 use Rattle.fin_tensor.specs.declared.format.Level.{Level}
 use Rattle.fin_tensor.specs.declared.format.Level.TheVariants.{Dense, List as SortedList, Runs, Band, Dict}
@@ -13,6 +13,7 @@ use Rattle.fin_looplet.specs.declared.looplet.Looplet.TheVariants.{Run, Spike, L
 use Rattle.fin_looplet.specs.declared.looplet.Phase.{Phase}
 use Rattle.fin_looplet.specs.declared.looplet.Walker.{Walker}
 use Rattle.fin_unfurl.specs.declared.fibre.Fibre.{Fibre}
+use Rattle.fin_unfurl.specs.Fibres.{Asked}
 use Rattle.fin_unfurl.specs.Parts.{next, cell, begin, end, place, leaf}
 
 -- the fill, up to a stop
@@ -95,3 +96,15 @@ is_there e = false
 abbrev pub guarded : Fibre → IExpr → Looplet → Looplet
 guarded f there walk =
     if is_there there then walk else Switch (record { test = there; child = walk } ∷ record { test = Num (pos 1); child = Run (Fill f.fill) } ∷ [])
+
+-- ---- the fibre that is asked for
+
+-- the level below, where there is one; a level's number fits a byte
+abbrev pub below_of : List Level → ℕ → Option ℕ
+below_of ls k = if nat_eq (k + 1) (length ls) then None else Some (min (k + 1) 255)
+
+abbrev pub fibre_of : Asked → Fibre
+fibre_of a = record { tensor = a.tensor; level = a.level; below = below_of a.format.levels a.level; extent = a.extent; fill = a.format.fill; cursor = a.cursor }
+
+abbrev pub unfurled : Asked → Level → Looplet
+unfurled a kind = guarded (fibre_of a) a.there (walk_of kind (fibre_of a) a.place)
