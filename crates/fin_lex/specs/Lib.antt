@@ -1,3 +1,4 @@
 pub mod Piece
 pub mod Tokens
 pub mod Laws
+pub mod Vocabulary

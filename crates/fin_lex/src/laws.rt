@@ -1,5 +1,6 @@
 //! Laws of the definition of tokens.
 ghost use Rattle.fin_lex.specs.Laws.{OneList, OneLine, NeverBoth};
+ghost use Rattle.fin_lex.specs.Vocabulary.{TablesAreTheWords};
 
 /// A text has at most one list of tokens.
 pub fn one_list_of_tokens()
@@ -14,4 +15,9 @@ pub fn one_line_of_breach()
 /// A text that has tokens doesn't break.
 pub fn never_both()
     ensures law { NeverBoth }
+{}
+
+/// The tables of reserved words and symbols are those of the language, letter by letter.
+pub fn tables_are_the_words()
+    ensures law { TablesAreTheWords }
 {}

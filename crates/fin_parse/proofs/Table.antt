@@ -380,7 +380,7 @@ same_phrase n m h = some_same (sym (phrase_listed n) ∙ ap (λ k. slice_get phr
 pub chosen : (f : Form) (c : Class) → row_starts (row_of f) c ≡ true → form_at (phrase_of f) c ≡ Some f
 chosen f c h =
     let t : not (row_starts (row_of f) c) || is_form (form_at (phrase_of f) c) f ≡ true =
-        at_both (λ f c. not (row_starts (row_of f) c) || is_form (form_at (phrase_of f) c) f) refl f c in
+    at_both (λ f c. not (row_starts (row_of f) c) || is_form (form_at (phrase_of f) c) f) refl f c in
     same_form (form_at (phrase_of f) c) f (implied (row_starts (row_of f) c) (is_form (form_at (phrase_of f) c) f) t h)
 
 -- a form without a token is chosen always
@@ -399,7 +399,7 @@ nullable _ h = impossible h
 pub continued : (f : Form) (c : Class) → row_continues (row_of f) c ≡ true → goes_on (phrase_of f) c ≡ true
 continued f c h =
     let t : not (row_continues (row_of f) c) || goes_on (phrase_of f) c ≡ true =
-        at_both (λ f c. not (row_continues (row_of f) c) || goes_on (phrase_of f) c) refl f c in
+    at_both (λ f c. not (row_continues (row_of f) c) || goes_on (phrase_of f) c) refl f c in
     implied (row_continues (row_of f) c) (goes_on (phrase_of f) c) t h
 
 pub clear : (f : Form) (c : Class) → is_clear (row_of f) c ≡ true
@@ -514,5 +514,5 @@ stmt_apart c = at_class (λ c. not (goes_on phrase.Stmt c && begins phrase.Stmt 
 pub header_clear : (c : Class) → begins phrase.Stmt c ≡ true → not (begins phrase.Header c || goes_on phrase.Header c) ≡ true
 header_clear c h =
     let t : not (begins phrase.Stmt c) || not (begins phrase.Header c || goes_on phrase.Header c) ≡ true =
-        at_class (λ c. not (begins phrase.Stmt c) || not (begins phrase.Header c || goes_on phrase.Header c)) refl c in
+    at_class (λ c. not (begins phrase.Stmt c) || not (begins phrase.Header c || goes_on phrase.Header c)) refl c in
     implied (begins phrase.Stmt c) (not (begins phrase.Header c || goes_on phrase.Header c)) t h

@@ -18,3 +18,4 @@ pub mod Terms
 pub mod Elaboration
 pub mod HeaderTrees
 pub mod Program
+pub mod Vocabulary

@@ -21,6 +21,7 @@ mod header_trees;
 mod headers;
 mod heads;
 mod indices;
+mod laws;
 mod names;
 mod naming;
 mod numbers;
@@ -40,6 +41,7 @@ mod trees;
 mod verdict;
 
 pub use grammar::Form;
+pub use laws::words_stand_for;
 pub use program::parse;
 pub use tree::Tree;
 pub use trees::Text;
