@@ -6,8 +6,8 @@ use Rattle.std.specs.Prelude.{is_some, slice_set, nat_eq, ◌==◌}
 use Rattle.fin_base.specs.declared.refusal.Rule.{Rule}
 use Rattle.fin_ast.specs.declared.header.Header.{Header}
 use Rattle.fin_ast.specs.declared.mode.Mode.TheVariants.{Update}
-use Rattle.fin_ast.specs.declared.tree.Stmt.{Stmt}
-use Rattle.fin_ast.specs.declared.tree.Stmt.TheVariants as s
+use Rattle.fin_ast.specs.declared.tree.Stmt.{Stmt, map-Stmt}
+use Rattle.fin_ast.specs.declared.tree.Stmt.TheOpen.{Stmt-F}
 use Rattle.fin_ast.specs.Bindings.{bindings_of, bindings_of_all, counts_from}
 use Rattle.fin_ast.specs.Text.{Declares}
 use Rattle.fin_ast.specs.Modes.{is_input_at}
@@ -15,8 +15,7 @@ use Rattle.fin_ast.specs.Life.{is_update, is_declared, breach_by}
 use Rattle.fin_ast.specs.Scope.{Scope, is_among, is_named, are_named, within_loop}
 use Rattle.fin_ast.specs.Value.{Numbers}
 use Rattle.fin_ast.specs.Dense.{Setting, made_at}
-use Rattle.fin_ast.proofs.Induction.{AllOf, Cases, by_kind}
-use Rattle.fin_ast.proofs.Nodes.{of_block, of_loop, of_cond, of_bind, of_declare, of_freeze, of_thaw, of_update}
+use Rattle.fin_ast.proofs.Induction.{AllOf, Held, bare, plain, by_two}
 use Rattle.fin_ast.proofs.Unbroken.{first_none, second_none, unbroken}
 use Rattle.fin_life.specs.Passage.{ModeOf, Passage, turned, breach_of_expr, breach_in, body_breach, stmt_passage, passage_of, passages_of}
 use Rattle.fin_life.specs.Passage as life
@@ -31,7 +30,7 @@ use Rattle.fin_stage.proofs.Fits.{stage_fits, braced_fits}
 use Rattle.fin_stage.proofs.Small.{counts_split}
 use Rattle.fin_stage.proofs.Lexical.{Strict, Weak, strict_inside, strict_is_weak, weak_fewer, weak_prefix}
 use Rattle.fin_stage.proofs.Touching.{is_declaration_of, touches, any_touches, declares, any_declares, same_tensor, last_in, last_closed, untouched}
-use Rattle.fin_ast.proofs.Leaves.{leaf_block, leaf_loop, leaf_cond, leaf_bind, leaf_declare, leaf_freeze, leaf_thaw, leaf_update}
+use Rattle.fin_ast.proofs.Leaves.{leaf_step}
 use Rattle.fin_stage.proofs.Declaring.{body_declares_nothing}
 use Rattle.fin_stage.proofs.Tracking.{depth, long_end, Stays, Along, tracked, body_tracked, body_goes_along, loop_goes}
 use Rattle.fin_stage.proofs.InOrder.{values, long_values, among_from, InOrder, no_update}
@@ -48,11 +47,11 @@ module _ (hs : List Header) (w : Setting) (given_is : (t : ℕ) → is_some (mad
   At now loops tracks n r = Here hs w given_is now loops tracks n r
 
   -- ---- what is declared and in update mode isn't declared by a statement
-  abbrev Fresh : Stmt → Type 0
-  Fresh x = (begin now : ModeOf) (t : ℕ) → (passage_of hs x).breach begin now ≡ None → now t ≡ Update → declares t x ≡ false
+  abbrev FreshBy : ℕ → Passage → Bool → Type 0
+  FreshBy t p b = (begin now : ModeOf) → p.breach begin now ≡ None → now t ≡ Update → b ≡ false
 
-  fresh_by : (x : Stmt) (p : Passage) (b : ℕ → Bool) → passage_of hs x ≡ p → ((t : ℕ) → declares t x ≡ b t) → ((begin now : ModeOf) (t : ℕ) → p.breach begin now ≡ None → now t ≡ Update → b t ≡ false) → Fresh x
-  fresh_by x p b ep eb f begin now t e u = eb t ∙ f begin now t (subst (λ (q : Passage). q.breach begin now ≡ None) ep e) u
+  abbrev Fresh : ℕ → Stmt → Type 0
+  Fresh t x = FreshBy t (passage_of hs x) (declares t x)
 
   pub declare_fresh : (tensor line : ℕ) (begin now : ModeOf) (t : ℕ) → breach_by hs begin now (Declares tensor line) ≡ None → now t ≡ Update → nat_eq tensor t ≡ false
   declare_fresh tensor line begin now t e u = elim (nat_eq tensor t) as (λ b. nat_eq tensor t ≡ b → b ≡ false) [
@@ -65,20 +64,18 @@ module _ (hs : List Header) (w : Setting) (given_is : (t : ℕ) → is_some (mad
   body_fresh : (body : List Stmt) (last : ℕ) (now : ModeOf) (t : ℕ) → body_breach hs (passages_of hs body) last now ≡ None → now t ≡ Update → any_declares t body ≡ false
   body_fresh body last now t e u = body_declares_nothing hs t body last now e (declared_mode hs w given_is (now t) u)
 
-  fresh_cases : Cases Fresh
-  fresh_cases = record {
-    block = λ body line last all. fresh_by (s.Block body line last) _ (λ t. any_declares t body) (of_block Passage (stmt_passage hs) body line last) (λ t. leaf_block (is_declaration_of t) body line last) (λ begin now t e u. body_fresh body last now t e u);
-    loop = λ var range par body line last all. fresh_by (s.Loop var range par body line last) _ (λ t. any_declares t body) (of_loop Passage (stmt_passage hs) var range par body line last) (λ t. leaf_loop (is_declaration_of t) var range par body line last) (λ begin now t e u. body_fresh body last now t e u);
-    cond = λ test body line last all. fresh_by (s.Cond test body line last) _ (λ t. any_declares t body) (of_cond Passage (stmt_passage hs) test body line last) (λ t. leaf_cond (is_declaration_of t) test body line last) (λ begin now t e u. body_fresh body last now t (second_none (breach_of_expr now test) _ e) u);
-    bind = λ var value body line last all. fresh_by (s.Bind var value body line last) _ (λ t. any_declares t body) (of_bind Passage (stmt_passage hs) var value body line last) (λ t. leaf_bind (is_declaration_of t) var value body line last) (λ begin now t e u. body_fresh body last now t (second_none (breach_of_expr now value) _ e) u);
-    declare = λ tensor value line. fresh_by (s.Declare tensor value line) _ (λ t. nat_eq tensor t) (of_declare Passage (stmt_passage hs) tensor value line) (λ t. leaf_declare (is_declaration_of t) tensor value line) (λ begin now t e u. declare_fresh tensor line begin now t e u);
-    freeze = λ tensor line. fresh_by (s.Freeze tensor line) _ (λ t. false) (of_freeze Passage (stmt_passage hs) tensor line) (λ t. leaf_freeze (is_declaration_of t) tensor line) (λ begin now t e u. refl);
-    thaw = λ tensor line. fresh_by (s.Thaw tensor line) _ (λ t. false) (of_thaw Passage (stmt_passage hs) tensor line) (λ t. leaf_thaw (is_declaration_of t) tensor line) (λ begin now t e u. refl);
-    update = λ tensor at by value line. fresh_by (s.Update tensor at by value line) _ (λ t. false) (of_update Passage (stmt_passage hs) tensor at by value line) (λ t. leaf_update (is_declaration_of t) tensor at by value line) (λ begin now t e u. refl);
-  }
+  fresh_step : (t : ℕ) (y : Stmt-F (Held (Fresh t))) → FreshBy t (stmt_passage hs (map-Stmt Stmt Passage (passage_of hs) (plain (Fresh t) y))) (leaf_step (is_declaration_of t) (map-Stmt Stmt Bool (declares t) (plain (Fresh t) y)))
+  fresh_step t (Stmt-F.Block body line last) begin now e u = body_fresh (bare (Fresh t) body) last now t e u
+  fresh_step t (Stmt-F.Loop var range par body line last) begin now e u = body_fresh (bare (Fresh t) body) last now t e u
+  fresh_step t (Stmt-F.Cond test body line last) begin now e u = body_fresh (bare (Fresh t) body) last now t (second_none (breach_of_expr now test) _ e) u
+  fresh_step t (Stmt-F.Bind var value body line last) begin now e u = body_fresh (bare (Fresh t) body) last now t (second_none (breach_of_expr now value) _ e) u
+  fresh_step t (Stmt-F.Declare tensor value line) begin now e u = declare_fresh tensor line begin now t e u
+  fresh_step t (Stmt-F.Freeze tensor line) begin now e u = refl
+  fresh_step t (Stmt-F.Thaw tensor line) begin now e u = refl
+  fresh_step t (Stmt-F.Update tensor at by value line) begin now e u = refl
 
-  fresh : (x : Stmt) → Fresh x
-  fresh = by_kind Fresh fresh_cases
+  fresh : (t : ℕ) (x : Stmt) → Fresh t x
+  fresh t = by_two (stmt_passage hs) (leaf_step (is_declaration_of t)) (FreshBy t) (fresh_step t)
 
   -- ---- what is shown
   pub record After (after : ModeOf) (loops : List ℕ) (tracks : Tracks) (m : ℕ) (vars : Numbers) (among : ℕ → Bool) (r : Run) : Type 0 where
@@ -132,7 +129,7 @@ module _ (hs : List Header) (w : Setting) (given_is : (t : ℕ) → is_some (mad
       } in
       let o1 : (t : ℕ) → among t ≡ true → InOrder hs t loops middle m vars (last_at r1 t) = λ t h. elim (touches t x) as (λ b. touches t x ≡ b → InOrder hs t loops middle m vars (last_at r1 t)) [
         | true ↦ λ e. here.order t e
-        | false ↦ λ e. carried_by hs w given_is now t loops tracks middle n m (omega arith) vars r r1.stages at.alive (λ u. tracked hs t x loops tracks (fresh x begin now t lives u)) (untouched w t x e vars r) (o t h)
+        | false ↦ λ e. carried_by hs w given_is now t loops tracks middle n m (omega arith) vars r r1.stages at.alive (λ u. tracked hs t x loops tracks (fresh t x begin now lives u)) (untouched w t x e vars r) (o t h)
       ] refl in
       let later = orders_all body all.1 sc begin ((passage_of hs x).after now) loops middle m vars r1 among eh (right (is_named x sc) (are_named body sc) en) (second_none ((passage_of hs x).breach begin now) _ el) (second_none ((trail_of hs x).breach loops tracks) _ et) two.1 (omega (arith, room, long)) at1 (λ t h. within t (or_right (touches t x) (any_touches t body) h)) o1 in
       record { ordered = later.ordered; order = λ t h. subst (λ (k : ℕ). InOrder hs t loops (trail.after_all (trails_of hs body) loops middle) k vars (last_at (stage_all w body vars r1) t)) (omega (arith, long)) (later.order t h); entered = later.entered }

@@ -7,7 +7,8 @@ use Rattle.fin_base.specs.declared.refusal.Rule.{Rule}
 use Rattle.fin_tensor.specs.Order.{ordered_levels}
 use Rattle.fin_ast.specs.declared.header.Header.{Header}
 use Rattle.fin_ast.specs.declared.tree.Index.{Index}
-use Rattle.fin_ast.specs.declared.tree.Stmt.{Stmt}
+use Rattle.fin_ast.specs.declared.tree.Stmt.{Stmt, map-Stmt}
+use Rattle.fin_ast.specs.declared.tree.Stmt.TheOpen.{Stmt-F}
 use Rattle.fin_ast.specs.declared.tree.Stmt.TheVariants as s
 use Rattle.fin_ast.specs.Bindings.{bindings_step, bindings_of, bindings_of_all}
 use Rattle.fin_ast.specs.Choices.{levels_of}
@@ -16,11 +17,11 @@ use Rattle.fin_ast.specs.Scope.{is_among}
 use Rattle.fin_ast.proofs.Nodes.{of_block, of_loop, of_cond, of_bind, of_declare, of_freeze, of_thaw, of_update}
 use Rattle.fin_life.specs.Tracks.{Tracks, declared, updated}
 use Rattle.fin_life.specs.Trails.{Trail, stmt_trail, trail_of, trails_of, breach_along, after_all, update_breach}
-use Rattle.fin_ast.proofs.Induction.{AllOf, Cases, by_kind, all_by_kind}
+use Rattle.fin_ast.proofs.Induction.{AllOf, Cases, Held, bare, plain, all_of, each, by_two, by_kind, all_by_kind}
 use Rattle.fin_ast.proofs.Unbroken.{first_none, second_none, unbroken}
 use Rattle.fin_stage.proofs.Alive.{left, right, neither, not_not}
 use Rattle.fin_stage.proofs.Touching.{is_declaration_of, is_update_of, touches, any_touches, declares, any_declares, same_tensor, itself}
-use Rattle.fin_ast.proofs.Leaves.{leaf_block, leaf_loop, leaf_cond, leaf_bind, leaf_declare, leaf_freeze, leaf_thaw, leaf_update}
+use Rattle.fin_ast.proofs.Leaves.{leaf_step, leaf_block, leaf_loop, leaf_cond, leaf_bind, leaf_declare, leaf_freeze, leaf_thaw, leaf_update}
 
 -- ---- lists
 pub drop_end : (e : ℕ) (loops : List ℕ) (v : ℕ) → e ≤ length loops → drop e (loops ++ v ∷ []) ≡ drop e loops ++ v ∷ []
@@ -78,8 +79,11 @@ module _ (hs : List Header) (t : ℕ) where
     pub entered : after.entered t ≡ before.entered t
     pub first : (f : List ℕ) → before.firsts t ≡ Some f → after.firsts t ≡ Some f
 
+  abbrev TrackedBy : Trail → Bool → Type 0
+  TrackedBy q b = (loops : List ℕ) (tracks : Tracks) → b ≡ false → Stays loops tracks (q.after loops tracks)
+
   abbrev Tracked : Stmt → Type 0
-  Tracked x = (loops : List ℕ) (tracks : Tracks) → declares t x ≡ false → Stays loops tracks ((trail_of hs x).after loops tracks)
+  Tracked x = TrackedBy (trail_of hs x) (declares t x)
 
   stays_still : (loops : List ℕ) (tracks : Tracks) → Stays loops tracks tracks
   stays_still loops tracks = record { entered = refl; first = λ f e. e }
@@ -91,9 +95,6 @@ module _ (hs : List Header) (t : ℕ) where
       let here = all.0 loops tracks two.0 in
       let later = all_tracked body all.1 loops ((trail_of hs x).after loops tracks) two.1 in
       record { entered = later.entered ∙ here.entered; first = λ f h. later.first f (here.first f h) }
-
-  tracked_by : (x : Stmt) (b : Bool) (q : Trail) → declares t x ≡ b → trail_of hs x ≡ q → ((loops : List ℕ) (tracks : Tracks) → b ≡ false → Stays loops tracks (q.after loops tracks)) → Tracked x
-  tracked_by x b q eb eq f loops tracks e = subst (λ (y : Trail). Stays loops tracks (y.after loops tracks)) (sym eq) (f loops tracks (sym eb ∙ e))
 
   declared_other : (tensor : ℕ) (loops : List ℕ) (tracks : Tracks) → nat_eq tensor t ≡ false → Stays loops tracks (declared tensor (length loops) tracks)
   declared_other tensor loops tracks e = record {
@@ -110,24 +111,21 @@ module _ (hs : List Header) (t : ℕ) where
     ] refl;
   }
 
-  tracked_cases : Cases Tracked
-  tracked_cases = record {
-    block = λ body line last all. tracked_by (s.Block body line last) (any_declares t body) _ (leaf_block (is_declaration_of t) body line last) (of_block Trail (stmt_trail hs) body line last) (λ loops tracks e. all_tracked body all loops tracks e);
-    loop = λ var range par body line last all. tracked_by (s.Loop var range par body line last) (any_declares t body) _ (leaf_loop (is_declaration_of t) var range par body line last) (of_loop Trail (stmt_trail hs) var range par body line last)
-        (λ loops tracks e. let h = all_tracked body all (loops ++ var ∷ []) tracks e in record { entered = h.entered; first = h.first });
-    cond = λ test body line last all. tracked_by (s.Cond test body line last) (any_declares t body) _ (leaf_cond (is_declaration_of t) test body line last) (of_cond Trail (stmt_trail hs) test body line last) (λ loops tracks e. all_tracked body all loops tracks e);
-    bind = λ var value body line last all. tracked_by (s.Bind var value body line last) (any_declares t body) _ (leaf_bind (is_declaration_of t) var value body line last) (of_bind Trail (stmt_trail hs) var value body line last) (λ loops tracks e. all_tracked body all loops tracks e);
-    declare = λ tensor value line. tracked_by (s.Declare tensor value line) (nat_eq tensor t) _ (leaf_declare (is_declaration_of t) tensor value line) (of_declare Trail (stmt_trail hs) tensor value line) (λ loops tracks e. declared_other tensor loops tracks e);
-    freeze = λ tensor line. tracked_by (s.Freeze tensor line) false _ (leaf_freeze (is_declaration_of t) tensor line) (of_freeze Trail (stmt_trail hs) tensor line) (λ loops tracks e. stays_still loops tracks);
-    thaw = λ tensor line. tracked_by (s.Thaw tensor line) false _ (leaf_thaw (is_declaration_of t) tensor line) (of_thaw Trail (stmt_trail hs) tensor line) (λ loops tracks e. stays_still loops tracks);
-    update = λ tensor at by value line. tracked_by (s.Update tensor at by value line) false _ (leaf_update (is_declaration_of t) tensor at by value line) (of_update Trail (stmt_trail hs) tensor at by value line) (λ loops tracks e. updated_stays tensor loops tracks);
-  }
+  tracked_step : (y : Stmt-F (Held Tracked)) → TrackedBy (stmt_trail hs (map-Stmt Stmt Trail (trail_of hs) (plain Tracked y))) (leaf_step (is_declaration_of t) (map-Stmt Stmt Bool (declares t) (plain Tracked y)))
+  tracked_step (Stmt-F.Block body line last) loops tracks e = all_tracked (bare Tracked body) (all_of Tracked body) loops tracks e
+  tracked_step (Stmt-F.Loop var range par body line last) loops tracks e = let h = all_tracked (bare Tracked body) (all_of Tracked body) (loops ++ var ∷ []) tracks e in record { entered = h.entered; first = h.first }
+  tracked_step (Stmt-F.Cond test body line last) loops tracks e = all_tracked (bare Tracked body) (all_of Tracked body) loops tracks e
+  tracked_step (Stmt-F.Bind var value body line last) loops tracks e = all_tracked (bare Tracked body) (all_of Tracked body) loops tracks e
+  tracked_step (Stmt-F.Declare tensor value line) loops tracks e = declared_other tensor loops tracks e
+  tracked_step (Stmt-F.Freeze tensor line) loops tracks e = stays_still loops tracks
+  tracked_step (Stmt-F.Thaw tensor line) loops tracks e = stays_still loops tracks
+  tracked_step (Stmt-F.Update tensor at by value line) loops tracks e = updated_stays tensor loops tracks
 
   pub tracked : (x : Stmt) → Tracked x
-  tracked = by_kind Tracked tracked_cases
+  tracked = by_two (stmt_trail hs) (leaf_step (is_declaration_of t)) TrackedBy tracked_step
 
   pub body_tracked : (body : List Stmt) (loops : List ℕ) (tracks : Tracks) → any_declares t body ≡ false → Stays loops tracks (after_all (trails_of hs body) loops tracks)
-  body_tracked body = all_tracked body (all_by_kind Tracked tracked_cases body)
+  body_tracked body = all_tracked body (each Tracked tracked body)
 
   -- ---- a statement that updates the tensor
   -- its first update's loops f begin as those around it do, and where these are few, go on with a loop of the statement's own
