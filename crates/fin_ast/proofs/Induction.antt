@@ -55,6 +55,17 @@ module _ {A B : Type 0} (f : Stmt-F A → A) (g : Stmt-F B → B) (R : A → B �
   by_two step = by_nodes OfTwo (λ y. let u = plain OfTwo y in
       subst (λ (a : A). R a (fold-Stmt B g (roll-Stmt u))) (sym (fold-roll-Stmt A f u)) (subst (λ (b : B). R (f (map-Stmt Stmt A (fold-Stmt A f) u)) b) (sym (fold-roll-Stmt B g u)) (step y)))
 
+-- of three
+module _ {A B C : Type 0} (f : Stmt-F A → A) (g : Stmt-F B → B) (h : Stmt-F C → C) (R : A → B → C → Type 0) where
+  abbrev pub OfThree : Stmt → Type 0
+  OfThree x = R (fold-Stmt A f x) (fold-Stmt B g x) (fold-Stmt C h x)
+
+  pub by_three : ((y : Stmt-F (Held OfThree)) → R (f (map-Stmt Stmt A (fold-Stmt A f) (plain OfThree y))) (g (map-Stmt Stmt B (fold-Stmt B g) (plain OfThree y))) (h (map-Stmt Stmt C (fold-Stmt C h) (plain OfThree y)))) → (x : Stmt) → OfThree x
+  by_three step = by_nodes OfThree (λ y. let u = plain OfThree y in
+      subst (λ (a : A). R a (fold-Stmt B g (roll-Stmt u)) (fold-Stmt C h (roll-Stmt u))) (sym (fold-roll-Stmt A f u))
+      (subst (λ (b : B). R (f (map-Stmt Stmt A (fold-Stmt A f) u)) b (fold-Stmt C h (roll-Stmt u))) (sym (fold-roll-Stmt B g u))
+      (subst (λ (c : C). R (f (map-Stmt Stmt A (fold-Stmt A f) u)) (g (map-Stmt Stmt B (fold-Stmt B g) u)) c) (sym (fold-roll-Stmt C h u)) (step y))))
+
 module _ (P : Stmt → Type 0) (c : Cases P) where
   step : (y : Stmt-F (Held P)) → P (roll-Stmt (plain P y))
   step (Stmt-F.Block body line last) = subst P (sym (s.rolls-Block _ line last)) (c.block _ line last (all_of P body))

@@ -10,23 +10,21 @@ use Rattle.fin_base.specs.Words.{apply}
 use Rattle.fin_ast.specs.declared.header.Header.{Header}
 use Rattle.fin_ast.specs.declared.mode.Mode.{Mode}
 use Rattle.fin_ast.specs.declared.mode.Mode.TheVariants.{Undeclared, Update, Read}
-use Rattle.fin_ast.specs.declared.tree.Stmt.{Stmt}
+use Rattle.fin_ast.specs.declared.tree.Stmt.{Stmt, map-Stmt}
 use Rattle.fin_ast.specs.declared.tree.Stmt.TheOpen.{Stmt-F}
-use Rattle.fin_ast.specs.declared.tree.Stmt.TheVariants as s
 use Rattle.fin_ast.specs.Text.{Updates, Declares, Freezes, Thaws}
 use Rattle.fin_ast.specs.Modes.{is_input_at}
 use Rattle.fin_ast.specs.Life.{is_update, is_read, is_declared, breach_by}
 use Rattle.fin_ast.specs.Scope.{Scope, is_named, are_named, stmt_step, holds_of, within_loop, within_let, is_named_expr}
 use Rattle.fin_ast.specs.Value.{Numbers, place, coordinates, value_of}
 use Rattle.fin_ast.specs.Dense.{Setting, made_at, range_of, shape_at}
-use Rattle.fin_ast.proofs.Nodes.{of_block, of_loop, of_cond, of_bind, of_declare, of_freeze, of_thaw, of_update}
 use Rattle.fin_life.specs.Passage.{ModeOf, Passage, turned, breach_of_expr, breach_in, after_all, body_breach, stmt_passage, passage_of, passages_of}
 use Rattle.fin_stage.specs.Stages.{Stage, Absent, Built, Frozen, stage_at, work_of_declaration, work_of_storing}
-use Rattle.fin_stage.specs.Staged.{Run, worked, with_stage, unalive, unordered, with_value, asked_to_read, asked_for_small, has_small_indices, can_read, tensors_of, are_small, braced, repeated, looped, is_made, declare, freeze, freeze_at, thaw, thaw_at, put_at, update_at, update, format_at, staging, stage_of, stage_all}
+use Rattle.fin_stage.specs.Staged.{Run, Action, worked, with_stage, unalive, unordered, with_value, asked_to_read, asked_for_small, has_small_indices, can_read, tensors_of, are_small, braced, repeated, looped, is_made, declare, freeze, freeze_at, thaw, thaw_at, put_at, update_at, update, format_at, staging, stage_of, stage_all}
 use Rattle.fin_tensor.specs.Building.{started}
 use Rattle.fin_tensor.specs.Canon.{undecorated}
-use Rattle.fin_ast.proofs.Induction.{AllOf, Cases, by_kind, all_by_kind}
-use Rattle.fin_ast.proofs.Acting.{act_block, act_loop, act_cond, act_bind, act_declare, act_freeze, act_thaw, act_update}
+use Rattle.fin_ast.specs.Actions.{act_step}
+use Rattle.fin_ast.proofs.Induction.{AllOf, Held, bare, plain, all_of, each, by_three}
 use Rattle.fin_stage.proofs.Onward.{Onward, braced_goes_on, all_go_on}
 use Rattle.fin_ast.proofs.Unbroken.{first_none, second_none, unbroken}
 use Rattle.fin_stage.proofs.Agreeing.{Agrees, closes_agree}
@@ -40,8 +38,11 @@ module _ (hs : List Header) (w : Setting) (given_is : (t : ℕ) → is_some (mad
   Alive now r = Living hs w given_is now r
 
   -- ---- what is shown of a statement, and of a body
+  abbrev LivesBy : Passage → (Scope → Bool) → Action → Type 0
+  LivesBy p names does = (sc : Scope) (begin now : ModeOf) (vars : Numbers) (r : Run) → sc.headers ≡ hs → names sc ≡ true → p.breach begin now ≡ None → Alive now r → Alive (p.after now) (does vars r)
+
   abbrev Lives : Stmt → Type 0
-  Lives x = (sc : Scope) (begin now : ModeOf) (vars : Numbers) (r : Run) → sc.headers ≡ hs → is_named x sc ≡ true → (passage_of hs x).breach begin now ≡ None → Alive now r → Alive ((passage_of hs x).after now) (stage_of w x vars r)
+  Lives x = LivesBy (passage_of hs x) (is_named x) (stage_of w x)
 
   body_lives : (body : List Stmt) → AllOf Lives body → (sc : Scope) (begin now : ModeOf) (vars : Numbers) (r : Run) → sc.headers ≡ hs → are_named body sc ≡ true → breach_in (passages_of hs body) begin now ≡ None → Alive now r → Alive (after_all (passages_of hs body) now) (stage_all w body vars r)
   body_lives [] all sc begin now vars r eh en eb l = l
@@ -113,61 +114,39 @@ module _ (hs : List Header) (w : Setting) (given_is : (t : ℕ) → is_some (mad
       worked_lives hs w given_is now 1 _ whole
 
   -- ---- all statements
-  passage_is : (x : Stmt) (p : Passage) → passage_of hs x ≡ p → (begin now : ModeOf) → (passage_of hs x).breach begin now ≡ None → p.breach begin now ≡ None
-  passage_is x p e begin now h = subst (λ (q : Passage). q.breach begin now ≡ None) e h
+  there : (sc : Scope) (t : ℕ) (test : Header → Bool) → sc.headers ≡ hs → holds_of test (slice_get sc.headers t) ≡ true → t < length hs
+  there sc t test eh en = holds_there test hs t (subst (λ (l : List Header). holds_of test (slice_get l t) ≡ true) eh en)
 
-  -- with the equations of a kind: its passage, its names, and what it does
-  by_equations : (x : Stmt) (p : Passage) (names : Scope → Bool) (does : Numbers → Run → Run) → passage_of hs x ≡ p → is_named x ≡ names → ((vars : Numbers) (r : Run) → stage_of w x vars r ≡ does vars r)
-      → ((sc : Scope) (begin now : ModeOf) (vars : Numbers) (r : Run) → sc.headers ≡ hs → names sc ≡ true → p.breach begin now ≡ None → Alive now r → Alive (p.after now) (does vars r)) → Lives x
-  by_equations x p names does ep en ed h sc begin now vars r eh e eb l =
-      subst (λ (n : Run). Alive ((passage_of hs x).after now) n) (sym (ed vars r))
-      (subst (λ (q : Passage). Alive (q.after now) (does vars r)) (sym ep)
-      (h sc begin now vars r eh (ap (λ (f : Scope → Bool). f sc) (sym en) ∙ e) (subst (λ (q : Passage). q.breach begin now ≡ None) ep eb) l))
-
-  cases : Cases Lives
-  cases = record {
-    block = λ body line last all. by_equations (s.Block body line last) (stmt_passage hs (Stmt-F.Block (passages_of hs body) line last)) (stmt_step (Stmt-F.Block (map is_named body) line last)) (λ vars r. braced (stage_all w body) vars r)
-        (of_block Passage (stmt_passage hs) body line last) (of_block (Scope → Bool) stmt_step body line last) (λ vars r. act_block (staging w) vars r body line last)
-        (λ sc begin now vars r eh en eb l. braced_lives body all sc now last vars r eh en eb l);
-    loop = λ var range par body line last all. by_equations (s.Loop var range par body line last) (stmt_passage hs (Stmt-F.Loop var range par (passages_of hs body) line last)) (stmt_step (Stmt-F.Loop var range par (map is_named body) line last)) (λ vars r. looped (range_of w var) var (braced (stage_all w body)) vars r)
-        (of_loop Passage (stmt_passage hs) var range par body line last) (of_loop (Scope → Bool) stmt_step var range par body line last) (λ vars r. act_loop (staging w) vars r var range par body line last)
-        (λ sc begin now vars r eh en eb l. repeated_lives body all (within_loop sc var) now last eh en eb ((range_of w var).1 - (range_of w var).0) (range_of w var).0 var vars (worked 1 r) (worked_lives hs w given_is now 1 r l));
-    cond = λ test body line last all. by_equations (s.Cond test body line last) (stmt_passage hs (Stmt-F.Cond test (passages_of hs body) line last)) (stmt_step (Stmt-F.Cond test (map is_named body) line last)) (λ vars r. with_value w test vars (λ v x. if int_eq v (pos 0) then x else braced (stage_all w body) vars x) (worked 1 r))
-        (of_cond Passage (stmt_passage hs) test body line last) (of_cond (Scope → Bool) stmt_step test body line last) (λ vars r. act_cond (staging w) vars r test body line last)
-        (λ sc begin now vars r eh en eb l.
-        let x : Run = asked_for_small (has_small_indices test vars) (asked_to_read (can_read test (tensors_of w (worked 1 r))) (worked 1 r)) in
-        let lx : Alive now x = ready hs w given_is now test vars (worked 1 r) (first_none _ _ eb) (worked_lives hs w given_is now 1 r l) in
-        either hs w given_is now (int_eq (value_of test vars (tensors_of w (worked 1 r))) (pos 0)) x (braced (stage_all w body) vars x) lx (braced_lives body all sc now last vars x eh (right (is_named_expr test sc) (are_named body sc) en) (second_none (breach_of_expr now test) _ eb) lx));
-    bind = λ var value body line last all. by_equations (s.Bind var value body line last) (stmt_passage hs (Stmt-F.Bind var value (passages_of hs body) line last)) (stmt_step (Stmt-F.Bind var value (map is_named body) line last)) (λ vars r. with_value w value vars (λ v x. braced (stage_all w body) (slice_set vars var v) x) (worked 1 r))
-        (of_bind Passage (stmt_passage hs) var value body line last) (of_bind (Scope → Bool) stmt_step var value body line last) (λ vars r. act_bind (staging w) vars r var value body line last)
-        (λ sc begin now vars r eh en eb l.
-        let x : Run = asked_for_small (has_small_indices value vars) (asked_to_read (can_read value (tensors_of w (worked 1 r))) (worked 1 r)) in
-        let lx : Alive now x = ready hs w given_is now value vars (worked 1 r) (first_none _ _ eb) (worked_lives hs w given_is now 1 r l) in
-        braced_lives body all (within_let sc var) now last (slice_set vars var (value_of value vars (tensors_of w (worked 1 r)))) x eh (right (is_named_expr value sc) (are_named body (within_let sc var)) en) (second_none (breach_of_expr now value) _ eb) lx);
-    declare = λ tensor value line. by_equations (s.Declare tensor value line) (stmt_passage hs (Stmt-F.Declare tensor value line)) (stmt_step (Stmt-F.Declare tensor value line)) (λ vars r. declare w tensor r)
-        (of_declare Passage (stmt_passage hs) tensor value line) (of_declare (Scope → Bool) stmt_step tensor value line) (λ vars r. act_declare (staging w) vars r tensor value line)
-        (λ sc begin now vars r eh en eb l. declare_lives sc tensor line begin now r (there sc tensor _ eh en) eb l);
-    freeze = λ tensor line. by_equations (s.Freeze tensor line) (stmt_passage hs (Stmt-F.Freeze tensor line)) (stmt_step (Stmt-F.Freeze tensor line)) (λ vars r. freeze tensor r)
-        (of_freeze Passage (stmt_passage hs) tensor line) (of_freeze (Scope → Bool) stmt_step tensor line) (λ vars r. act_freeze (staging w) vars r tensor line)
-        (λ sc begin now vars r eh en eb l. freeze_lives tensor line begin now r (there sc tensor _ eh en) eb l);
-    thaw = λ tensor line. by_equations (s.Thaw tensor line) (stmt_passage hs (Stmt-F.Thaw tensor line)) (stmt_step (Stmt-F.Thaw tensor line)) (λ vars r. thaw w tensor r)
-        (of_thaw Passage (stmt_passage hs) tensor line) (of_thaw (Scope → Bool) stmt_step tensor line) (λ vars r. act_thaw (staging w) vars r tensor line)
-        (λ sc begin now vars r eh en eb l. thaw_lives tensor line begin now r (there sc tensor _ eh en) eb l);
-    update = λ tensor at by value line. by_equations (s.Update tensor at by value line) (stmt_passage hs (Stmt-F.Update tensor at by value line)) (stmt_step (Stmt-F.Update tensor at by value line)) (λ vars r. with_value w value vars (λ v x. update w tensor (map (place vars) at) by v (asked_for_small (are_small vars at) x)) r)
-        (of_update Passage (stmt_passage hs) tensor at by value line) (of_update (Scope → Bool) stmt_step tensor at by value line) (λ vars r. act_update (staging w) vars r tensor at by value line)
-        (λ sc begin now vars r eh en eb l.
-        let x : Run = asked_for_small (has_small_indices value vars) (asked_to_read (can_read value (tensors_of w r)) r) in
-        let lx : Alive now x = ready hs w given_is now value vars r (second_none (breach_by hs begin now (Updates tensor [] line)) _ eb) l in
-        update_lives tensor line (map (place vars) at) by (value_of value vars (tensors_of w r)) begin now (asked_for_small (are_small vars at) x) (there sc tensor _ eh (left _ _ (left _ (is_named_expr value sc) en))) (first_none _ (breach_of_expr now value) eb) (small_lives hs w given_is now (are_small vars at) x lx));
-  } where
-    there : (sc : Scope) (t : ℕ) (test : Header → Bool) → sc.headers ≡ hs → holds_of test (slice_get sc.headers t) ≡ true → t < length hs
-    there sc t test eh en = holds_there test hs t (subst (λ (l : List Header). holds_of test (slice_get l t) ≡ true) eh en)
+  step : (y : Stmt-F (Held Lives)) → LivesBy (stmt_passage hs (map-Stmt Stmt Passage (passage_of hs) (plain Lives y))) (stmt_step (map-Stmt Stmt (Scope → Bool) is_named (plain Lives y))) (act_step (staging w) (map-Stmt Stmt Action (stage_of w) (plain Lives y)))
+  step (Stmt-F.Block xs line last) sc begin now vars r eh en eb l =
+      let body : List Stmt = bare Lives xs in let all : AllOf Lives body = all_of Lives xs in
+      braced_lives body all sc now last vars r eh en eb l
+  step (Stmt-F.Loop var range par xs line last) sc begin now vars r eh en eb l =
+      let body : List Stmt = bare Lives xs in let all : AllOf Lives body = all_of Lives xs in
+      repeated_lives body all (within_loop sc var) now last eh en eb ((range_of w var).1 - (range_of w var).0) (range_of w var).0 var vars (worked 1 r) (worked_lives hs w given_is now 1 r l)
+  step (Stmt-F.Cond test xs line last) sc begin now vars r eh en eb l =
+      let body : List Stmt = bare Lives xs in let all : AllOf Lives body = all_of Lives xs in
+      let x : Run = asked_for_small (has_small_indices test vars) (asked_to_read (can_read test (tensors_of w (worked 1 r))) (worked 1 r)) in
+      let lx : Alive now x = ready hs w given_is now test vars (worked 1 r) (first_none _ _ eb) (worked_lives hs w given_is now 1 r l) in
+      either hs w given_is now (int_eq (value_of test vars (tensors_of w (worked 1 r))) (pos 0)) x (braced (stage_all w body) vars x) lx (braced_lives body all sc now last vars x eh (right (is_named_expr test sc) (are_named body sc) en) (second_none (breach_of_expr now test) _ eb) lx)
+  step (Stmt-F.Bind var value xs line last) sc begin now vars r eh en eb l =
+      let body : List Stmt = bare Lives xs in let all : AllOf Lives body = all_of Lives xs in
+      let x : Run = asked_for_small (has_small_indices value vars) (asked_to_read (can_read value (tensors_of w (worked 1 r))) (worked 1 r)) in
+      let lx : Alive now x = ready hs w given_is now value vars (worked 1 r) (first_none _ _ eb) (worked_lives hs w given_is now 1 r l) in
+      braced_lives body all (within_let sc var) now last (slice_set vars var (value_of value vars (tensors_of w (worked 1 r)))) x eh (right (is_named_expr value sc) (are_named body (within_let sc var)) en) (second_none (breach_of_expr now value) _ eb) lx
+  step (Stmt-F.Declare tensor value line) sc begin now vars r eh en eb l = declare_lives sc tensor line begin now r (there sc tensor _ eh en) eb l
+  step (Stmt-F.Freeze tensor line) sc begin now vars r eh en eb l = freeze_lives tensor line begin now r (there sc tensor _ eh en) eb l
+  step (Stmt-F.Thaw tensor line) sc begin now vars r eh en eb l = thaw_lives tensor line begin now r (there sc tensor _ eh en) eb l
+  step (Stmt-F.Update tensor at by value line) sc begin now vars r eh en eb l =
+      let x : Run = asked_for_small (has_small_indices value vars) (asked_to_read (can_read value (tensors_of w r)) r) in
+      let lx : Alive now x = ready hs w given_is now value vars r (second_none (breach_by hs begin now (Updates tensor [] line)) _ eb) l in
+      update_lives tensor line (map (place vars) at) by (value_of value vars (tensors_of w r)) begin now (asked_for_small (are_small vars at) x) (there sc tensor _ eh (left _ _ (left _ (is_named_expr value sc) en))) (first_none _ (breach_of_expr now value) eb) (small_lives hs w given_is now (are_small vars at) x lx)
 
   pub statement_lives : (x : Stmt) → Lives x
-  statement_lives = by_kind Lives cases
+  statement_lives = by_three (stmt_passage hs) stmt_step (act_step (staging w)) LivesBy step
 
   pub body_closes : (body : List Stmt) (sc : Scope) (now : ModeOf) (last : ℕ) (vars : Numbers) (r : Run) → sc.headers ≡ hs → are_named body sc ≡ true → body_breach hs (passages_of hs body) last now ≡ None → Alive now r → Alive now (braced (stage_all w body) vars r)
-  body_closes body = braced_lives body (all_by_kind Lives cases body)
+  body_closes body = braced_lives body (each Lives statement_lives body)
 
   pub statements_live : (body : List Stmt) (sc : Scope) (begin now : ModeOf) (vars : Numbers) (r : Run) → sc.headers ≡ hs → are_named body sc ≡ true → breach_in (passages_of hs body) begin now ≡ None → Alive now r → Alive (after_all (passages_of hs body) now) (stage_all w body vars r)
-  statements_live body = body_lives body (all_by_kind Lives cases body)
+  statements_live body = body_lives body (each Lives statement_lives body)

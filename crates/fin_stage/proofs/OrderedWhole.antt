@@ -11,9 +11,8 @@ use Rattle.fin_ast.specs.declared.mode.Mode.{Mode}
 use Rattle.fin_ast.specs.declared.mode.Mode.TheVariants.{Undeclared, Update, Read}
 use Rattle.fin_ast.specs.declared.tree.Index.{Index}
 use Rattle.fin_ast.specs.declared.tree.Expr.{Expr}
-use Rattle.fin_ast.specs.declared.tree.Stmt.{Stmt}
+use Rattle.fin_ast.specs.declared.tree.Stmt.{Stmt, map-Stmt, roll-Stmt, fold-roll-Stmt}
 use Rattle.fin_ast.specs.declared.tree.Stmt.TheOpen.{Stmt-F}
-use Rattle.fin_ast.specs.declared.tree.Stmt.TheVariants as s
 use Rattle.fin_ast.specs.Bindings.{bindings_step, bindings_of, bindings_of_all, counts_from}
 use Rattle.fin_ast.specs.Text.{Updates}
 use Rattle.fin_ast.specs.Modes.{is_input_at}
@@ -22,8 +21,8 @@ use Rattle.fin_ast.specs.Order.{are_variables}
 use Rattle.fin_ast.specs.Scope.{Scope, is_among, is_named, are_named, stmt_step, within_loop, within_let, is_access, is_named_expr}
 use Rattle.fin_ast.specs.Value.{Numbers, place, value_of}
 use Rattle.fin_ast.specs.Dense.{Setting, made_at, range_of}
-use Rattle.fin_ast.proofs.Induction.{Cases, all_by_kind}
-use Rattle.fin_ast.proofs.Nodes.{of_block, of_loop, of_cond, of_bind, of_declare, of_freeze, of_thaw, of_update}
+use Rattle.fin_ast.specs.Actions.{act_step}
+use Rattle.fin_ast.proofs.Induction.{AllOf, Held, bare, plain, all_of, each, by_nodes}
 use Rattle.fin_ast.proofs.Unbroken.{first_none, second_none, unbroken}
 use Rattle.fin_life.specs.Passage.{ModeOf, Passage, turned, breach_of_expr, breach_in, body_breach, stmt_passage, passage_of, passages_of}
 use Rattle.fin_life.specs.Tracks.{Tracks}
@@ -31,13 +30,12 @@ use Rattle.fin_life.specs.Tracks as track
 use Rattle.fin_life.specs.Trails.{Trail, stmt_trail, trail_of, trails_of, breach_along, update_breach}
 use Rattle.fin_life.specs.Trails as trail
 use Rattle.fin_stage.specs.Stages.{Stage, Absent, Built, Frozen, stage_at}
-use Rattle.fin_stage.specs.Staged.{Run, worked, unalive, with_value, asked_to_read, asked_for_small, has_small_indices, can_read, tensors_of, are_small, braced, looped, is_made, declare, freeze, freeze_at, thaw, thaw_at, update_at, update, staging, stage_of, stage_all}
+use Rattle.fin_stage.specs.Staged.{Run, Action, worked, unalive, with_value, asked_to_read, asked_for_small, has_small_indices, can_read, tensors_of, are_small, braced, looped, is_made, declare, freeze, freeze_at, thaw, thaw_at, update_at, update, staging, stage_of, stage_all}
 use Rattle.fin_stage.specs.Fitting.{StagesFit}
-use Rattle.fin_ast.proofs.Acting.{act_block, act_loop, act_cond, act_bind, act_declare, act_freeze, act_thaw, act_update}
 use Rattle.fin_stage.proofs.Alive.{left, right, not_not, holds_there, ready, worked_lives, small_lives}
 use Rattle.fin_stage.proofs.Lexical.{Weak}
 use Rattle.fin_stage.proofs.Touching.{is_update_of, touches, any_touches, same_tensor, last_in}
-use Rattle.fin_ast.proofs.Leaves.{leaf_block, leaf_loop, leaf_cond, leaf_bind, leaf_declare, leaf_freeze, leaf_thaw, leaf_update}
+use Rattle.fin_ast.proofs.Leaves.{leaf_step}
 use Rattle.fin_stage.proofs.Declaring.{body_declares_nothing}
 use Rattle.fin_stage.proofs.Tracking.{depth, body_tracked, order_kept, deep_enough}
 use Rattle.fin_stage.proofs.InOrder.{values, values_dropped, InOrder}
@@ -91,10 +89,13 @@ module _ (hs : List Header) (w : Setting) (given_is : (t : ℕ) → is_some (mad
   worked_at now loops tracks n r at = record { below = at.below; entered = at.entered; alive = worked_lives hs w given_is now 1 r at.alive; fits = at.fits; ordered = at.ordered }
 
   -- ---- kinds
-  by_equations : (x : Stmt) (p : Passage) (q : Trail) (binds : List ℕ) (names : Scope → Bool) (among : ℕ → Bool) (does : Numbers → Run → Run)
+  abbrev OrdersBy : Passage → Trail → List ℕ → (Scope → Bool) → (ℕ → Bool) → Action → Type 0
+  OrdersBy p q binds names among does = (sc : Scope) (begin now : ModeOf) (loops : List ℕ) (tracks : Tracks) (n : ℕ) (vars : Numbers) (r : Run) → sc.headers ≡ hs → names sc ≡ true → p.breach begin now ≡ None → q.breach loops tracks ≡ None → counts_from n binds ≡ true → n + length binds ≤ length vars → At now loops tracks n r
+      → ((t : ℕ) → among t ≡ true → InOrder hs t loops tracks n vars (last_at r t)) → Then (p.after now) loops (q.after loops tracks) (n + length binds) vars among (does vars r)
+
+  by_equations : (x : Stmt) (p : Passage) (q : Trail) (binds : List ℕ) (names : Scope → Bool) (among : ℕ → Bool) (does : Action)
       → passage_of hs x ≡ p → trail_of hs x ≡ q → bindings_of x ≡ binds → is_named x ≡ names → ((t : ℕ) → touches t x ≡ among t) → ((vars : Numbers) (r : Run) → stage_of w x vars r ≡ does vars r)
-      → ((sc : Scope) (begin now : ModeOf) (loops : List ℕ) (tracks : Tracks) (n : ℕ) (vars : Numbers) (r : Run) → sc.headers ≡ hs → names sc ≡ true → p.breach begin now ≡ None → q.breach loops tracks ≡ None → counts_from n binds ≡ true → n + length binds ≤ length vars → At now loops tracks n r
-      → ((t : ℕ) → among t ≡ true → InOrder hs t loops tracks n vars (last_at r t)) → Then (p.after now) loops (q.after loops tracks) (n + length binds) vars among (does vars r)) → OrdersIt x
+      → OrdersBy p q binds names among does → OrdersIt x
   by_equations x p q binds names among does ep eq eb en ea ed f sc begin now loops tracks n vars r eh e el et ec room at o =
       let got = f sc begin now loops tracks n vars r eh (ap (λ (g : Scope → Bool). g sc) (sym en) ∙ e) (subst (λ (y : Passage). y.breach begin now ≡ None) ep el) (subst (λ (y : Trail). y.breach loops tracks ≡ None) eq et)
       (subst (λ (vs : List ℕ). counts_from n vs ≡ true) eb ec) (subst (λ (vs : List ℕ). n + length vs ≤ length vars) eb room) at (λ t h. o t (ea t ∙ h)) in
@@ -183,75 +184,71 @@ module _ (hs : List Header) (w : Setting) (given_is : (t : ℕ) → is_some (mad
   itself : (a : ℕ) → nat_eq a a ≡ true
   itself a = grind (arith, nat_tests)
 
-  cases : Cases OrdersIt
-  cases = record {
-    block = λ body line last all. by_equations (s.Block body line last) (stmt_passage hs (Stmt-F.Block (passages_of hs body) line last)) (stmt_trail hs (Stmt-F.Block (trails_of hs body) line last)) (bindings_of_all body) (stmt_step (Stmt-F.Block (map is_named body) line last)) (λ t. any_touches t body) (λ vars r. braced (stage_all w body) vars r)
-        (of_block Passage (stmt_passage hs) body line last) (of_block Trail (stmt_trail hs) body line last) (of_block (List ℕ) bindings_step body line last) (of_block (Scope → Bool) stmt_step body line last) (λ t. leaf_block (is_update_of t) body line last) (λ vars r. act_block (staging w) vars r body line last)
-        (λ sc begin now loops tracks n vars r eh en el et ec room at o. braced_orders hs w given_is headers_is body all sc now last loops tracks n vars r eh en el et ec room at o);
-    loop = λ var range par body line last all. by_equations (s.Loop var range par body line last) (stmt_passage hs (Stmt-F.Loop var range par (passages_of hs body) line last)) (stmt_trail hs (Stmt-F.Loop var range par (trails_of hs body) line last)) (var ∷ bindings_of_all body) (stmt_step (Stmt-F.Loop var range par (map is_named body) line last)) (λ t. any_touches t body) (λ vars r. looped (range_of w var) var (braced (stage_all w body)) vars r)
-        (of_loop Passage (stmt_passage hs) var range par body line last) (of_loop Trail (stmt_trail hs) var range par body line last) (of_loop (List ℕ) bindings_step var range par body line last) (of_loop (Scope → Bool) stmt_step var range par body line last) (λ t. leaf_loop (is_update_of t) var range par body line last) (λ vars r. act_loop (staging w) vars r var range par body line last)
-        (λ sc begin now loops tracks n vars r eh en el et ec room at o.
-        let is : n ≡ var = sym (equal var n (left (var == n) (counts_from (n + 1) (bindings_of_all body)) ec)) in
-        subst (λ (k : ℕ). are_named body (within_loop sc k) ≡ true → breach_along (trails_of hs body) (loops ++ k ∷ []) tracks ≡ None → Then now loops (trail.after_all (trails_of hs body) (loops ++ k ∷ []) tracks) (n + suc (length (bindings_of_all body))) vars (λ t. any_touches t body) (looped (range_of w k) k (braced (stage_all w body)) vars r)) is
-        (λ en' et'. loop_orders hs w given_is headers_is body all sc now last line loops tracks n vars eh en' el et' (right (var == n) (counts_from (n + 1) (bindings_of_all body)) ec) room at.below (range_of w n) r at o) en et);
-    cond = λ test body line last all. by_equations (s.Cond test body line last) (stmt_passage hs (Stmt-F.Cond test (passages_of hs body) line last)) (stmt_trail hs (Stmt-F.Cond test (trails_of hs body) line last)) (bindings_of_all body) (stmt_step (Stmt-F.Cond test (map is_named body) line last)) (λ t. any_touches t body) (λ vars r. with_value w test vars (λ v x. if int_eq v (pos 0) then x else braced (stage_all w body) vars x) (worked 1 r))
-        (of_cond Passage (stmt_passage hs) test body line last) (of_cond Trail (stmt_trail hs) test body line last) (of_cond (List ℕ) bindings_step test body line last) (of_cond (Scope → Bool) stmt_step test body line last) (λ t. leaf_cond (is_update_of t) test body line last) (λ vars r. act_cond (staging w) vars r test body line last)
-        (λ sc begin now loops tracks n vars r eh en el et ec room at o.
-        let x : Run = asked_for_small (has_small_indices test vars) (asked_to_read (can_read test (tensors_of w (worked 1 r))) (worked 1 r)) in
-        let ax : At now loops tracks n x = ready_at now loops tracks n test vars (worked 1 r) (first_none (breach_of_expr now test) _ el) (worked_at now loops tracks n r at) in
-        let ox : (t : ℕ) → any_touches t body ≡ true → InOrder hs t loops tracks n vars (last_at x t) = λ t h. subst (λ (ss : List Stage). InOrder hs t loops tracks n vars (last_in (stage_at ss t))) (sym (ready_stages test vars (worked 1 r))) (o t h) in
-        let eb = second_none (breach_of_expr now test) (body_breach hs (passages_of hs body) last now) el in
-        either (int_eq (value_of test vars (tensors_of w (worked 1 r))) (pos 0)) now loops (trail.after_all (trails_of hs body) loops tracks) (n + length (bindings_of_all body)) vars (λ t. any_touches t body) x (braced (stage_all w body) vars x)
-        (unrun body last now loops tracks n (n + length (bindings_of_all body)) vars x (omega arith) eb ax ox) (braced_orders hs w given_is headers_is body all sc now last loops tracks n vars x eh (right (is_named_expr test sc) (are_named body sc) en) eb et ec room ax ox));
-    bind = λ var value body line last all. by_equations (s.Bind var value body line last) (stmt_passage hs (Stmt-F.Bind var value (passages_of hs body) line last)) (stmt_trail hs (Stmt-F.Bind var value (trails_of hs body) line last)) (var ∷ bindings_of_all body) (stmt_step (Stmt-F.Bind var value (map is_named body) line last)) (λ t. any_touches t body) (λ vars r. with_value w value vars (λ v x. braced (stage_all w body) (slice_set vars var v) x) (worked 1 r))
-        (of_bind Passage (stmt_passage hs) var value body line last) (of_bind Trail (stmt_trail hs) var value body line last) (of_bind (List ℕ) bindings_step var value body line last) (of_bind (Scope → Bool) stmt_step var value body line last) (λ t. leaf_bind (is_update_of t) var value body line last) (λ vars r. act_bind (staging w) vars r var value body line last)
-        (λ sc begin now loops tracks n vars r eh en el et ec room at o.
-        let is : var ≡ n = equal var n (left (var == n) (counts_from (n + 1) (bindings_of_all body)) ec) in
-        let x : Run = asked_for_small (has_small_indices value vars) (asked_to_read (can_read value (tensors_of w (worked 1 r))) (worked 1 r)) in
-        let v : ℤ = value_of value vars (tensors_of w (worked 1 r)) in
-        let inner : Numbers = slice_set vars var v in
-        let below : (k : ℕ) → is_among loops k ≡ true → k < var = λ k h. omega (arith, is, at.below k h) in
-        let ax : At now loops tracks n x = ready_at now loops tracks n value vars (worked 1 r) (first_none (breach_of_expr now value) _ el) (worked_at now loops tracks n r at) in
-        let ax1 : At now loops tracks (n + 1) x = record { below = λ k h. omega (arith, at.below k h); entered = ax.entered; alive = ax.alive; fits = ax.fits; ordered = ax.ordered } in
-        let same : (tr : Tracks) (t : ℕ) → values inner (drop (tr.entered t) loops) ≡ values vars (drop (tr.entered t) loops) = λ tr t. values_dropped vars loops (tr.entered t) var v below in
-        let ox : (t : ℕ) → any_touches t body ≡ true → InOrder hs t loops tracks (n + 1) inner (last_at x t) = λ t h.
-        more_numbers hs w given_is headers_is t loops tracks n (n + 1) inner (last_at x t) (omega arith) (other_values hs w given_is headers_is t loops tracks n inner vars (last_at x t) (sym (same tracks t))
-        (subst (λ (ss : List Stage). InOrder hs t loops tracks n vars (last_in (stage_at ss t))) (sym (ready_stages value vars (worked 1 r))) (o t h))) in
-        let eb = second_none (breach_of_expr now value) (body_breach hs (passages_of hs body) last now) el in
-        let long : length inner ≡ length vars = length-set vars var v in
-        let done = braced_orders hs w given_is headers_is body all (within_let sc var) now last loops tracks (n + 1) inner x eh (right (is_named_expr value sc) (are_named body (within_let sc var)) en) eb et (right (var == n) (counts_from (n + 1) (bindings_of_all body)) ec) (omega (arith, room, long)) ax1 ox in
-        let after : Tracks = trail.after_all (trails_of hs body) loops tracks in
-        record {
-          ordered = done.ordered;
-          order = λ t h. other_values hs w given_is headers_is t loops after (n + suc (length (bindings_of_all body))) vars inner (last_at (braced (stage_all w body) inner x) t) (same after t) (more_numbers hs w given_is headers_is t loops after (n + 1 + length (bindings_of_all body)) (n + suc (length (bindings_of_all body))) inner (last_at (braced (stage_all w body) inner x) t) (omega arith) (done.order t h));
-          entered = done.entered;
-        });
-    declare = λ tensor value line. by_equations (s.Declare tensor value line) (stmt_passage hs (Stmt-F.Declare tensor value line)) (stmt_trail hs (Stmt-F.Declare tensor value line)) [] (stmt_step (Stmt-F.Declare tensor value line)) (λ t. false) (λ vars r. declare w tensor r)
-        (of_declare Passage (stmt_passage hs) tensor value line) (of_declare Trail (stmt_trail hs) tensor value line) (of_declare (List ℕ) bindings_step tensor value line) (of_declare (Scope → Bool) stmt_step tensor value line) (λ t. leaf_declare (is_update_of t) tensor value line) (λ vars r. act_declare (staging w) vars r tensor value line)
-        (λ sc begin now loops tracks n vars r eh en el et ec room at o. record { ordered = same_flag (is_made w tensor) _ (unalive r) at.ordered at.ordered; order = λ t h. absurd (let c : ◌≡◌ {A = Bool} false true = h in cc); entered = declared_entered now tensor loops tracks n r at });
-    freeze = λ tensor line. by_equations (s.Freeze tensor line) (stmt_passage hs (Stmt-F.Freeze tensor line)) (stmt_trail hs (Stmt-F.Freeze tensor line)) [] (stmt_step (Stmt-F.Freeze tensor line)) (λ t. false) (λ vars r. freeze tensor r)
-        (of_freeze Passage (stmt_passage hs) tensor line) (of_freeze Trail (stmt_trail hs) tensor line) (of_freeze (List ℕ) bindings_step tensor line) (of_freeze (Scope → Bool) stmt_step tensor line) (λ t. leaf_freeze (is_update_of t) tensor line) (λ vars r. act_freeze (staging w) vars r tensor line)
-        (λ sc begin now loops tracks n vars r eh en el et ec room at o. record { ordered = freeze_flag tensor (stage_at r.stages tensor) r at.ordered; order = λ t h. absurd (let c : ◌≡◌ {A = Bool} false true = h in cc); entered = led_entered now tensor Read loops tracks n r (update_is_declared (now tensor) (not_not (is_update (now tensor)) (unbroken _ Rule.L4 line el))) at });
-    thaw = λ tensor line. by_equations (s.Thaw tensor line) (stmt_passage hs (Stmt-F.Thaw tensor line)) (stmt_trail hs (Stmt-F.Thaw tensor line)) [] (stmt_step (Stmt-F.Thaw tensor line)) (λ t. false) (λ vars r. thaw w tensor r)
-        (of_thaw Passage (stmt_passage hs) tensor line) (of_thaw Trail (stmt_trail hs) tensor line) (of_thaw (List ℕ) bindings_step tensor line) (of_thaw (Scope → Bool) stmt_step tensor line) (λ t. leaf_thaw (is_update_of t) tensor line) (λ vars r. act_thaw (staging w) vars r tensor line)
-        (λ sc begin now loops tracks n vars r eh en el et ec room at o. record { ordered = same_flag (is_made w tensor) (thaw_at tensor (stage_at r.stages tensor) r) (unalive r) (thaw_flag tensor (stage_at r.stages tensor) r at.ordered) at.ordered; order = λ t h. absurd (let c : ◌≡◌ {A = Bool} false true = h in cc); entered = led_entered now tensor Update loops tracks n r (read_is_declared (now tensor) (not_not (is_read (now tensor)) (second_false (is_input_at hs tensor) (not (is_read (now tensor))) (unbroken _ Rule.L5 line el)))) at });
-    update = λ tensor at' by value line. by_equations (s.Update tensor at' by value line) (stmt_passage hs (Stmt-F.Update tensor at' by value line)) (stmt_trail hs (Stmt-F.Update tensor at' by value line)) [] (stmt_step (Stmt-F.Update tensor at' by value line)) (λ t. nat_eq tensor t) (λ vars r. with_value w value vars (λ v x. update w tensor (map (place vars) at') by v (asked_for_small (are_small vars at') x)) r)
-        (of_update Passage (stmt_passage hs) tensor at' by value line) (of_update Trail (stmt_trail hs) tensor at' by value line) (of_update (List ℕ) bindings_step tensor at' by value line) (of_update (Scope → Bool) stmt_step tensor at' by value line) (λ t. leaf_update (is_update_of t) tensor at' by value line) (λ vars r. act_update (staging w) vars r tensor at' by value line)
-        (λ sc begin now loops tracks n vars r eh en el et ec room at o.
-        let x : Run = asked_for_small (has_small_indices value vars) (asked_to_read (can_read value (tensors_of w r)) r) in
-        let y : Run = asked_for_small (are_small vars at') x in
-        let v : ℤ = value_of value vars (tensors_of w r) in
-        let ax : At now loops tracks n x = ready_at now loops tracks n value vars r (second_none (breach_by hs begin now (Updates tensor [] line)) _ el) at in
-        let ay : At now loops tracks n y = small_at now loops tracks n (are_small vars at') x ax in
-        let sy : y.stages ≡ r.stages = small_stages (are_small vars at') x ∙ ready_stages value vars r in
-        let own : InOrder hs tensor loops tracks n vars (last_at y tensor) = subst (λ (ss : List Stage). InOrder hs tensor loops tracks n vars (last_in (stage_at ss tensor))) (sym sy) (o tensor (itself tensor)) in
-        let inside : tensor < length hs = subst (λ (l : List Header). tensor < length l) eh (holds_there _ sc.headers tensor (left _ _ (left (is_access sc tensor at') (is_named_expr value sc) en))) in
-        let done = update_orders now loops tracks n (n + 0) vars tensor line at' by v y inside et ay own in
-        record { ordered = done.ordered; order = λ t h. subst (λ (k : ℕ). InOrder hs k loops (track.updated tensor loops tracks) (n + 0) vars (last_at (update w tensor (map (place vars) at') by v y) k)) (same_tensor tensor t h) done.order; entered = at.entered });
-  }
+  step : (y : Stmt-F (Held OrdersIt)) → (let u = plain OrdersIt y in OrdersBy (stmt_passage hs (map-Stmt Stmt Passage (passage_of hs) u)) (stmt_trail hs (map-Stmt Stmt Trail (trail_of hs) u)) (bindings_step (map-Stmt Stmt (List ℕ) bindings_of u))
+      (stmt_step (map-Stmt Stmt (Scope → Bool) is_named u)) (λ t. leaf_step (is_update_of t) (map-Stmt Stmt Bool (touches t) u)) (act_step (staging w) (map-Stmt Stmt Action (stage_of w) u)))
+  step (Stmt-F.Block xs line last) sc begin now loops tracks n vars r eh en el et ec room at o =
+      let body : List Stmt = bare OrdersIt xs in let all : AllOf OrdersIt body = all_of OrdersIt xs in
+      braced_orders hs w given_is headers_is body all sc now last loops tracks n vars r eh en el et ec room at o
+  step (Stmt-F.Loop var range par xs line last) sc begin now loops tracks n vars r eh en el et ec room at o =
+      let body : List Stmt = bare OrdersIt xs in let all : AllOf OrdersIt body = all_of OrdersIt xs in
+      let is : n ≡ var = sym (equal var n (left (var == n) (counts_from (n + 1) (bindings_of_all body)) ec)) in
+      subst (λ (k : ℕ). are_named body (within_loop sc k) ≡ true → breach_along (trails_of hs body) (loops ++ k ∷ []) tracks ≡ None → Then now loops (trail.after_all (trails_of hs body) (loops ++ k ∷ []) tracks) (n + suc (length (bindings_of_all body))) vars (λ t. any_touches t body) (looped (range_of w k) k (braced (stage_all w body)) vars r)) is
+      (λ en' et'. loop_orders hs w given_is headers_is body all sc now last line loops tracks n vars eh en' el et' (right (var == n) (counts_from (n + 1) (bindings_of_all body)) ec) room at.below (range_of w n) r at o) en et
+  step (Stmt-F.Cond test xs line last) sc begin now loops tracks n vars r eh en el et ec room at o =
+      let body : List Stmt = bare OrdersIt xs in let all : AllOf OrdersIt body = all_of OrdersIt xs in
+      let x : Run = asked_for_small (has_small_indices test vars) (asked_to_read (can_read test (tensors_of w (worked 1 r))) (worked 1 r)) in
+      let ax : At now loops tracks n x = ready_at now loops tracks n test vars (worked 1 r) (first_none (breach_of_expr now test) _ el) (worked_at now loops tracks n r at) in
+      let ox : (t : ℕ) → any_touches t body ≡ true → InOrder hs t loops tracks n vars (last_at x t) = λ t h. subst (λ (ss : List Stage). InOrder hs t loops tracks n vars (last_in (stage_at ss t))) (sym (ready_stages test vars (worked 1 r))) (o t h) in
+      let eb = second_none (breach_of_expr now test) (body_breach hs (passages_of hs body) last now) el in
+      either (int_eq (value_of test vars (tensors_of w (worked 1 r))) (pos 0)) now loops (trail.after_all (trails_of hs body) loops tracks) (n + length (bindings_of_all body)) vars (λ t. any_touches t body) x (braced (stage_all w body) vars x)
+      (unrun body last now loops tracks n (n + length (bindings_of_all body)) vars x (omega arith) eb ax ox) (braced_orders hs w given_is headers_is body all sc now last loops tracks n vars x eh (right (is_named_expr test sc) (are_named body sc) en) eb et ec room ax ox)
+  step (Stmt-F.Bind var value xs line last) sc begin now loops tracks n vars r eh en el et ec room at o =
+      let body : List Stmt = bare OrdersIt xs in let all : AllOf OrdersIt body = all_of OrdersIt xs in
+      let is : var ≡ n = equal var n (left (var == n) (counts_from (n + 1) (bindings_of_all body)) ec) in
+      let x : Run = asked_for_small (has_small_indices value vars) (asked_to_read (can_read value (tensors_of w (worked 1 r))) (worked 1 r)) in
+      let v : ℤ = value_of value vars (tensors_of w (worked 1 r)) in
+      let inner : Numbers = slice_set vars var v in
+      let below : (k : ℕ) → is_among loops k ≡ true → k < var = λ k h. omega (arith, is, at.below k h) in
+      let ax : At now loops tracks n x = ready_at now loops tracks n value vars (worked 1 r) (first_none (breach_of_expr now value) _ el) (worked_at now loops tracks n r at) in
+      let ax1 : At now loops tracks (n + 1) x = record { below = λ k h. omega (arith, at.below k h); entered = ax.entered; alive = ax.alive; fits = ax.fits; ordered = ax.ordered } in
+      let same : (tr : Tracks) (t : ℕ) → values inner (drop (tr.entered t) loops) ≡ values vars (drop (tr.entered t) loops) = λ tr t. values_dropped vars loops (tr.entered t) var v below in
+      let ox : (t : ℕ) → any_touches t body ≡ true → InOrder hs t loops tracks (n + 1) inner (last_at x t) = λ t h.
+      more_numbers hs w given_is headers_is t loops tracks n (n + 1) inner (last_at x t) (omega arith) (other_values hs w given_is headers_is t loops tracks n inner vars (last_at x t) (sym (same tracks t))
+      (subst (λ (ss : List Stage). InOrder hs t loops tracks n vars (last_in (stage_at ss t))) (sym (ready_stages value vars (worked 1 r))) (o t h))) in
+      let eb = second_none (breach_of_expr now value) (body_breach hs (passages_of hs body) last now) el in
+      let long : length inner ≡ length vars = length-set vars var v in
+      let done = braced_orders hs w given_is headers_is body all (within_let sc var) now last loops tracks (n + 1) inner x eh (right (is_named_expr value sc) (are_named body (within_let sc var)) en) eb et (right (var == n) (counts_from (n + 1) (bindings_of_all body)) ec) (omega (arith, room, long)) ax1 ox in
+      let after : Tracks = trail.after_all (trails_of hs body) loops tracks in
+      record {
+        ordered = done.ordered;
+        order = λ t h. other_values hs w given_is headers_is t loops after (n + suc (length (bindings_of_all body))) vars inner (last_at (braced (stage_all w body) inner x) t) (same after t) (more_numbers hs w given_is headers_is t loops after (n + 1 + length (bindings_of_all body)) (n + suc (length (bindings_of_all body))) inner (last_at (braced (stage_all w body) inner x) t) (omega arith) (done.order t h));
+        entered = done.entered;
+      }
+  step (Stmt-F.Declare tensor value line) sc begin now loops tracks n vars r eh en el et ec room at o =
+      record { ordered = same_flag (is_made w tensor) _ (unalive r) at.ordered at.ordered; order = λ t h. absurd (let c : ◌≡◌ {A = Bool} false true = h in cc); entered = declared_entered now tensor loops tracks n r at }
+  step (Stmt-F.Freeze tensor line) sc begin now loops tracks n vars r eh en el et ec room at o =
+      record { ordered = freeze_flag tensor (stage_at r.stages tensor) r at.ordered; order = λ t h. absurd (let c : ◌≡◌ {A = Bool} false true = h in cc); entered = led_entered now tensor Read loops tracks n r (update_is_declared (now tensor) (not_not (is_update (now tensor)) (unbroken _ Rule.L4 line el))) at }
+  step (Stmt-F.Thaw tensor line) sc begin now loops tracks n vars r eh en el et ec room at o =
+      record { ordered = same_flag (is_made w tensor) (thaw_at tensor (stage_at r.stages tensor) r) (unalive r) (thaw_flag tensor (stage_at r.stages tensor) r at.ordered) at.ordered; order = λ t h. absurd (let c : ◌≡◌ {A = Bool} false true = h in cc); entered = led_entered now tensor Update loops tracks n r (read_is_declared (now tensor) (not_not (is_read (now tensor)) (second_false (is_input_at hs tensor) (not (is_read (now tensor))) (unbroken _ Rule.L5 line el)))) at }
+  step (Stmt-F.Update tensor at' by value line) sc begin now loops tracks n vars r eh en el et ec room at o =
+      let x : Run = asked_for_small (has_small_indices value vars) (asked_to_read (can_read value (tensors_of w r)) r) in
+      let y : Run = asked_for_small (are_small vars at') x in
+      let v : ℤ = value_of value vars (tensors_of w r) in
+      let ax : At now loops tracks n x = ready_at now loops tracks n value vars r (second_none (breach_by hs begin now (Updates tensor [] line)) _ el) at in
+      let ay : At now loops tracks n y = small_at now loops tracks n (are_small vars at') x ax in
+      let sy : y.stages ≡ r.stages = small_stages (are_small vars at') x ∙ ready_stages value vars r in
+      let own : InOrder hs tensor loops tracks n vars (last_at y tensor) = subst (λ (ss : List Stage). InOrder hs tensor loops tracks n vars (last_in (stage_at ss tensor))) (sym sy) (o tensor (itself tensor)) in
+      let inside : tensor < length hs = subst (λ (l : List Header). tensor < length l) eh (holds_there _ sc.headers tensor (left _ _ (left (is_access sc tensor at') (is_named_expr value sc) en))) in
+      let done = update_orders now loops tracks n (n + 0) vars tensor line at' by v y inside et ay own in
+      record { ordered = done.ordered; order = λ t h. subst (λ (k : ℕ). InOrder hs k loops (track.updated tensor loops tracks) (n + 0) vars (last_at (update w tensor (map (place vars) at') by v y) k)) (same_tensor tensor t h) done.order; entered = at.entered }
+
+  orders_it : (x : Stmt) → OrdersIt x
+  orders_it = by_nodes OrdersIt (λ y. let u = plain OrdersIt y in
+      by_equations (roll-Stmt u) _ _ _ _ (λ t. leaf_step (is_update_of t) (map-Stmt Stmt Bool (touches t) u)) _ (fold-roll-Stmt Passage (stmt_passage hs) u) (fold-roll-Stmt Trail (stmt_trail hs) u) (fold-roll-Stmt (List ℕ) bindings_step u)
+      (fold-roll-Stmt (Scope → Bool) stmt_step u) (λ t. fold-roll-Stmt Bool (leaf_step (is_update_of t)) u) (λ vars r. ap (λ (a : Action). a vars r) (fold-roll-Stmt Action (act_step (staging w)) u)) (step y))
 
   pub statements_in_order : (body : List Stmt) (sc : Scope) (begin now : ModeOf) (loops : List ℕ) (tracks : Tracks) (n : ℕ) (vars : Numbers) (r : Run) → sc.headers ≡ hs → are_named body sc ≡ true
       → breach_in (passages_of hs body) begin now ≡ None → breach_along (trails_of hs body) loops tracks ≡ None → counts_from n (bindings_of_all body) ≡ true → n + length (bindings_of_all body) ≤ length vars → At now loops tracks n r
       → ((t : ℕ) → any_touches t body ≡ true → InOrder hs t loops tracks n vars (last_at r t)) → (stage_all w body vars r).ordered ≡ true
   statements_in_order body sc begin now loops tracks n vars r eh en el et ec room at o =
-      (orders_all hs w given_is headers_is body (all_by_kind OrdersIt cases body) sc begin now loops tracks n vars r (λ t. any_touches t body) eh en el et ec room at (λ t h. h) o).ordered
+      (orders_all hs w given_is headers_is body (each OrdersIt orders_it body) sc begin now loops tracks n vars r (λ t. any_touches t body) eh en el et ec room at (λ t h. h) o).ordered

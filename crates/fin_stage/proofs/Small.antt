@@ -12,9 +12,8 @@ use Rattle.fin_ast.specs.declared.place.Place.{Place}
 use Rattle.fin_ast.specs.declared.place.Place.TheVariants.{Loop, Let}
 use Rattle.fin_ast.specs.declared.tree.Index.{Index}
 use Rattle.fin_ast.specs.declared.tree.Expr.{Expr}
-use Rattle.fin_ast.specs.declared.tree.Stmt.{Stmt}
+use Rattle.fin_ast.specs.declared.tree.Stmt.{Stmt, map-Stmt, roll-Stmt, fold-roll-Stmt}
 use Rattle.fin_ast.specs.declared.tree.Stmt.TheOpen.{Stmt-F}
-use Rattle.fin_ast.specs.declared.tree.Stmt.TheVariants as s
 use Rattle.fin_ast.specs.Bindings.{bindings_step, bindings_of, bindings_of_all, counts_from}
 use Rattle.fin_ast.specs.Sizes.{first_of, large_in_header, large_in_place}
 use Rattle.fin_ast.specs.Shaped.{AreRanged}
@@ -24,11 +23,10 @@ use Rattle.fin_ast.specs.Places.{Gathering, uses_of, places_of_expr, stmt_places
 use Rattle.fin_ast.specs.Scope.{Scope, is_among, is_named, are_named, stmt_step, is_named_expr, is_access, within_loop, within_let, outermost}
 use Rattle.fin_ast.specs.Value.{Numbers, number, place, coordinates, value_of}
 use Rattle.fin_ast.specs.Dense.{Setting, range_of, setting_of, unbound}
-use Rattle.fin_ast.proofs.Nodes.{of_block, of_loop, of_cond, of_bind, of_declare, of_freeze, of_thaw, of_update}
 use Rattle.fin_stage.specs.Stages.{Stage, Absent, Built, Frozen, stage_at}
-use Rattle.fin_stage.specs.Staged.{Run, worked, with_stage, unalive, unordered, with_value, asked_to_read, asked_for_small, can_read, has_small_indices, tensors_of, is_small, are_small, braced, repeated, looped, is_made, declare, freeze, freeze_at, thaw, thaw_at, put_at, update_at, update, staging, stage_of, stage_all, before_all, staged}
-use Rattle.fin_ast.proofs.Induction.{AllOf, Cases, all_by_kind}
-use Rattle.fin_ast.proofs.Acting.{act_block, act_loop, act_cond, act_bind, act_declare, act_freeze, act_thaw, act_update}
+use Rattle.fin_stage.specs.Staged.{Run, Action, worked, with_stage, unalive, unordered, with_value, asked_to_read, asked_for_small, can_read, has_small_indices, tensors_of, is_small, are_small, braced, repeated, looped, is_made, declare, freeze, freeze_at, thaw, thaw_at, put_at, update_at, update, staging, stage_of, stage_all, before_all, staged}
+use Rattle.fin_ast.specs.Actions.{act_step}
+use Rattle.fin_ast.proofs.Induction.{AllOf, Held, bare, plain, all_of, each, by_nodes}
 use Rattle.fin_ast.proofs.Unbroken.{second_none}
 use Rattle.fin_stage.proofs.Alive.{left, right}
 use Rattle.fin_stage.proofs.Smallness.{NoneLarge, last_none, small_number, SmallLoops, small_access, fine_expr, small_set, kept_small}
@@ -149,73 +147,67 @@ module _ (w : Setting) (ranged : AreRanged w.dims.ranges) where
   before_access sc line tensor at before access l = (small_access sc [] (no_numbers sc.loops) line tensor at before access l).0
 
   -- ---- all statements
-  by_equations : (x : Stmt) (names : Scope → Bool) (binds : List ℕ) (places : Gathering) (does : Numbers → Run → Run) → is_named x ≡ names → bindings_of x ≡ binds → places_of x ≡ places → ((vars : Numbers) (r : Run) → stage_of w x vars r ≡ does vars r)
-      → ((sc : Scope) (n : ℕ) (before : List Place) → names sc ≡ true → counts_from n binds ≡ true → Below sc.loops n → NoneLarge (places before) → NoneLarge before × ((vars : Numbers) (r : Run) → SmallLoops sc.loops vars → r.small ≡ true → (does vars r).small ≡ true)) → Smalls x
+  abbrev SmallsBy : (Scope → Bool) → List ℕ → Gathering → Action → Type 0
+  SmallsBy names binds places does = (sc : Scope) (n : ℕ) (before : List Place) → names sc ≡ true → counts_from n binds ≡ true → Below sc.loops n → NoneLarge (places before) → NoneLarge before × ((vars : Numbers) (r : Run) → SmallLoops sc.loops vars → r.small ≡ true → (does vars r).small ≡ true)
+
+  by_equations : (x : Stmt) (names : Scope → Bool) (binds : List ℕ) (places : Gathering) (does : Action) → is_named x ≡ names → bindings_of x ≡ binds → places_of x ≡ places → ((vars : Numbers) (r : Run) → stage_of w x vars r ≡ does vars r)
+      → SmallsBy names binds places does → Smalls x
   by_equations x names binds places does en eb ep ed h sc n before e c f l =
       let got = h sc n before (ap (λ (g : Scope → Bool). g sc) (sym en) ∙ e) (subst (λ (vs : List ℕ). counts_from n vs ≡ true) eb c) f (subst (λ (g : Gathering). NoneLarge (g before)) ep l) in
       (got.0, λ vars r hs g. ap (λ (k : Run). k.small) (ed vars r) ∙ got.1 vars r hs g)
 
-  cases : Cases Smalls
-  cases = record {
-    block = λ body line last all. by_equations (s.Block body line last) (stmt_step (Stmt-F.Block (map is_named body) line last)) (bindings_of_all body) (places_of_all body) (λ vars r. braced (stage_all w body) vars r)
-        (of_block (Scope → Bool) stmt_step body line last) (of_block (List ℕ) bindings_step body line last) (of_block Gathering stmt_places body line last) (λ vars r. act_block (staging w) vars r body line last)
-        (λ sc n before e c f l. smalls_all body all sc n before e c f l);
-    loop = λ var range par body line last all. by_equations (s.Loop var range par body line last) (stmt_step (Stmt-F.Loop var range par (map is_named body) line last)) (var ∷ bindings_of_all body) (λ before. places_of_all body (before ++ Loop var range line ∷ [])) (λ vars r. looped (range_of w var) var (braced (stage_all w body)) vars r)
-        (of_loop (Scope → Bool) stmt_step var range par body line last) (of_loop (List ℕ) bindings_step var range par body line last) (of_loop Gathering stmt_places var range par body line last) (λ vars r. act_loop (staging w) vars r var range par body line last)
-        (λ sc n before e c f l.
-        let is : var ≡ n = equal var n (left (var == n) (counts_from (n + 1) (bindings_of_all body)) c) in
-        let inner = smalls_all body all (within_loop sc var) (n + 1) (before ++ Loop var range line ∷ []) e (right (var == n) (counts_from (n + 1) (bindings_of_all body)) c) (subst (λ (k : ℕ). Below (k ∷ sc.loops) (n + 1)) (sym is) (below_loop sc.loops n f)) l in
-        ((last_none before (Loop var range line) inner.0).0, λ vars r h g. repeated_small body sc.loops var (subst (Below sc.loops) (sym is) f) inner.1 (range_of w var).1 (range_small var) ((range_of w var).1 - (range_of w var).0) (range_of w var).0 (room (range_of w var).0 (range_of w var).1) vars (worked 1 r) h g));
-    cond = λ test body line last all. by_equations (s.Cond test body line last) (stmt_step (Stmt-F.Cond test (map is_named body) line last)) (bindings_of_all body) (λ before. places_of_all body (places_of_expr test before)) (λ vars r. with_value w test vars (λ v x. if int_eq v (pos 0) then x else braced (stage_all w body) vars x) (worked 1 r))
-        (of_cond (Scope → Bool) stmt_step test body line last) (of_cond (List ℕ) bindings_step test body line last) (of_cond Gathering stmt_places test body line last) (λ vars r. act_cond (staging w) vars r test body line last)
-        (λ sc n before e c f l.
-        let inner = smalls_all body all sc n (places_of_expr test before) (right (is_named_expr test sc) (are_named body sc) e) c f l in (
-          before_expr sc test before (left (is_named_expr test sc) (are_named body sc) e) inner.0,
-          λ vars r h g.
-              let fine = fine_expr sc vars h test before (left (is_named_expr test sc) (are_named body sc) e) inner.0 in
-              let x : Run = asked_for_small (has_small_indices test vars) (asked_to_read (can_read test (tensors_of w (worked 1 r))) (worked 1 r)) in
-              let gx : x.small ≡ true = ready_small test vars (worked 1 r) fine.1 g in
-              either (int_eq (value_of test vars (tensors_of w (worked 1 r))) (pos 0)) x (braced (stage_all w body) vars x) gx (inner.1 vars x h gx),
-        ));
-    bind = λ var value body line last all. by_equations (s.Bind var value body line last) (stmt_step (Stmt-F.Bind var value (map is_named body) line last)) (var ∷ bindings_of_all body) (λ before. places_of_all body (places_of_expr value (before ++ Let ∷ []))) (λ vars r. with_value w value vars (λ v x. braced (stage_all w body) (slice_set vars var v) x) (worked 1 r))
-        (of_bind (Scope → Bool) stmt_step var value body line last) (of_bind (List ℕ) bindings_step var value body line last) (of_bind Gathering stmt_places var value body line last) (λ vars r. act_bind (staging w) vars r var value body line last)
-        (λ sc n before e c f l.
-        let is : var ≡ n = equal var n (left (var == n) (counts_from (n + 1) (bindings_of_all body)) c) in
-        let inner = smalls_all body all (within_let sc var) (n + 1) (places_of_expr value (before ++ Let ∷ [])) (right (is_named_expr value sc) (are_named body (within_let sc var)) e) (right (var == n) (counts_from (n + 1) (bindings_of_all body)) c) (below_more sc.loops n (n + 1) (omega arith) f) l in (
-          (last_none before Let (before_expr sc value (before ++ Let ∷ []) (left (is_named_expr value sc) (are_named body (within_let sc var)) e) inner.0)).0,
-          λ vars r h g.
-              let fine = fine_expr sc vars h value (before ++ Let ∷ []) (left (is_named_expr value sc) (are_named body (within_let sc var)) e) inner.0 in
-              let x : Run = asked_for_small (has_small_indices value vars) (asked_to_read (can_read value (tensors_of w (worked 1 r))) (worked 1 r)) in
-              inner.1 (slice_set vars var (value_of value vars (tensors_of w (worked 1 r)))) x (kept_small sc.loops vars var (value_of value vars (tensors_of w (worked 1 r))) (subst (Below sc.loops) (sym is) f) h) (ready_small value vars (worked 1 r) fine.1 g),
-        ));
-    declare = λ tensor value line. by_equations (s.Declare tensor value line) (stmt_step (Stmt-F.Declare tensor value line)) [] (λ before. before) (λ vars r. declare w tensor r)
-        (of_declare (Scope → Bool) stmt_step tensor value line) (of_declare (List ℕ) bindings_step tensor value line) (of_declare Gathering stmt_places tensor value line) (λ vars r. act_declare (staging w) vars r tensor value line)
-        (λ sc n before e c f l. (l, λ vars r h g. either (is_made w tensor) _ (unalive r) g g));
-    freeze = λ tensor line. by_equations (s.Freeze tensor line) (stmt_step (Stmt-F.Freeze tensor line)) [] (λ before. before) (λ vars r. freeze tensor r)
-        (of_freeze (Scope → Bool) stmt_step tensor line) (of_freeze (List ℕ) bindings_step tensor line) (of_freeze Gathering stmt_places tensor line) (λ vars r. act_freeze (staging w) vars r tensor line)
-        (λ sc n before e c f l. (l, λ vars r h g. freeze_small tensor (stage_at r.stages tensor) r g));
-    thaw = λ tensor line. by_equations (s.Thaw tensor line) (stmt_step (Stmt-F.Thaw tensor line)) [] (λ before. before) (λ vars r. thaw w tensor r)
-        (of_thaw (Scope → Bool) stmt_step tensor line) (of_thaw (List ℕ) bindings_step tensor line) (of_thaw Gathering stmt_places tensor line) (λ vars r. act_thaw (staging w) vars r tensor line)
-        (λ sc n before e c f l. (l, λ vars r h g. either (is_made w tensor) _ (unalive r) (thaw_small tensor (stage_at r.stages tensor) r g) g));
-    update = λ tensor at by value line. by_equations (s.Update tensor at by value line) (stmt_step (Stmt-F.Update tensor at by value line)) [] (λ before. places_of_expr value (uses_of line (8 * tensor) at before)) (λ vars r. with_value w value vars (λ v x. update w tensor (map (place vars) at) by v (asked_for_small (are_small vars at) x)) r)
-        (of_update (Scope → Bool) stmt_step tensor at by value line) (of_update (List ℕ) bindings_step tensor at by value line) (of_update Gathering stmt_places tensor at by value line) (λ vars r. act_update (staging w) vars r tensor at by value line)
-        (λ sc n before e c f l.
-        let access = left (is_access sc tensor at) (is_named_expr value sc) e in
-        let named = right (is_access sc tensor at) (is_named_expr value sc) e in (
-          before_access sc line tensor at before access (before_expr sc value (uses_of line (8 * tensor) at before) named l),
-          λ vars r h g.
-              let fine = fine_expr sc vars h value (uses_of line (8 * tensor) at before) named l in
-              let own = small_access sc vars h line tensor at before access fine.0 in
-              let x : Run = asked_for_small (has_small_indices value vars) (asked_to_read (can_read value (tensors_of w r)) r) in
-              let gx : x.small ≡ true = ready_small value vars r fine.1 g in
-              let gy : (asked_for_small (are_small vars at) x).small ≡ true = subst (λ (b : Bool). (asked_for_small b x).small ≡ true) (sym own.1) gx in
-              either (is_made w tensor) (update_at tensor (stage_at (asked_for_small (are_small vars at) x).stages tensor) (map (place vars) at) by (value_of value vars (tensors_of w r)) (asked_for_small (are_small vars at) x)) (unalive (asked_for_small (are_small vars at) x))
-              (update_small tensor (stage_at (asked_for_small (are_small vars at) x).stages tensor) (map (place vars) at) by (value_of value vars (tensors_of w r)) (asked_for_small (are_small vars at) x) gy) gy,
-        ));
-  }
+  step : (y : Stmt-F (Held Smalls)) → (let u = plain Smalls y in SmallsBy (stmt_step (map-Stmt Stmt (Scope → Bool) is_named u)) (bindings_step (map-Stmt Stmt (List ℕ) bindings_of u)) (stmt_places (map-Stmt Stmt Gathering places_of u)) (act_step (staging w) (map-Stmt Stmt Action (stage_of w) u)))
+  step (Stmt-F.Block xs line last) sc n before e c f l =
+      let body : List Stmt = bare Smalls xs in let all : AllOf Smalls body = all_of Smalls xs in
+      smalls_all body all sc n before e c f l
+  step (Stmt-F.Loop var range par xs line last) sc n before e c f l =
+      let body : List Stmt = bare Smalls xs in let all : AllOf Smalls body = all_of Smalls xs in
+      let is : var ≡ n = equal var n (left (var == n) (counts_from (n + 1) (bindings_of_all body)) c) in
+      let inner = smalls_all body all (within_loop sc var) (n + 1) (before ++ Loop var range line ∷ []) e (right (var == n) (counts_from (n + 1) (bindings_of_all body)) c) (subst (λ (k : ℕ). Below (k ∷ sc.loops) (n + 1)) (sym is) (below_loop sc.loops n f)) l in
+      ((last_none before (Loop var range line) inner.0).0, λ vars r h g. repeated_small body sc.loops var (subst (Below sc.loops) (sym is) f) inner.1 (range_of w var).1 (range_small var) ((range_of w var).1 - (range_of w var).0) (range_of w var).0 (room (range_of w var).0 (range_of w var).1) vars (worked 1 r) h g)
+  step (Stmt-F.Cond test xs line last) sc n before e c f l =
+      let body : List Stmt = bare Smalls xs in let all : AllOf Smalls body = all_of Smalls xs in
+      let inner = smalls_all body all sc n (places_of_expr test before) (right (is_named_expr test sc) (are_named body sc) e) c f l in (
+        before_expr sc test before (left (is_named_expr test sc) (are_named body sc) e) inner.0,
+        λ vars r h g.
+            let fine = fine_expr sc vars h test before (left (is_named_expr test sc) (are_named body sc) e) inner.0 in
+            let x : Run = asked_for_small (has_small_indices test vars) (asked_to_read (can_read test (tensors_of w (worked 1 r))) (worked 1 r)) in
+            let gx : x.small ≡ true = ready_small test vars (worked 1 r) fine.1 g in
+            either (int_eq (value_of test vars (tensors_of w (worked 1 r))) (pos 0)) x (braced (stage_all w body) vars x) gx (inner.1 vars x h gx),
+      )
+  step (Stmt-F.Bind var value xs line last) sc n before e c f l =
+      let body : List Stmt = bare Smalls xs in let all : AllOf Smalls body = all_of Smalls xs in
+      let is : var ≡ n = equal var n (left (var == n) (counts_from (n + 1) (bindings_of_all body)) c) in
+      let inner = smalls_all body all (within_let sc var) (n + 1) (places_of_expr value (before ++ Let ∷ [])) (right (is_named_expr value sc) (are_named body (within_let sc var)) e) (right (var == n) (counts_from (n + 1) (bindings_of_all body)) c) (below_more sc.loops n (n + 1) (omega arith) f) l in (
+        (last_none before Let (before_expr sc value (before ++ Let ∷ []) (left (is_named_expr value sc) (are_named body (within_let sc var)) e) inner.0)).0,
+        λ vars r h g.
+            let fine = fine_expr sc vars h value (before ++ Let ∷ []) (left (is_named_expr value sc) (are_named body (within_let sc var)) e) inner.0 in
+            let x : Run = asked_for_small (has_small_indices value vars) (asked_to_read (can_read value (tensors_of w (worked 1 r))) (worked 1 r)) in
+            inner.1 (slice_set vars var (value_of value vars (tensors_of w (worked 1 r)))) x (kept_small sc.loops vars var (value_of value vars (tensors_of w (worked 1 r))) (subst (Below sc.loops) (sym is) f) h) (ready_small value vars (worked 1 r) fine.1 g),
+      )
+  step (Stmt-F.Declare tensor value line) sc n before e c f l = (l, λ vars r h g. either (is_made w tensor) _ (unalive r) g g)
+  step (Stmt-F.Freeze tensor line) sc n before e c f l = (l, λ vars r h g. freeze_small tensor (stage_at r.stages tensor) r g)
+  step (Stmt-F.Thaw tensor line) sc n before e c f l = (l, λ vars r h g. either (is_made w tensor) _ (unalive r) (thaw_small tensor (stage_at r.stages tensor) r g) g)
+  step (Stmt-F.Update tensor at by value line) sc n before e c f l =
+      let access = left (is_access sc tensor at) (is_named_expr value sc) e in
+      let named = right (is_access sc tensor at) (is_named_expr value sc) e in (
+        before_access sc line tensor at before access (before_expr sc value (uses_of line (8 * tensor) at before) named l),
+        λ vars r h g.
+            let fine = fine_expr sc vars h value (uses_of line (8 * tensor) at before) named l in
+            let own = small_access sc vars h line tensor at before access fine.0 in
+            let x : Run = asked_for_small (has_small_indices value vars) (asked_to_read (can_read value (tensors_of w r)) r) in
+            let gx : x.small ≡ true = ready_small value vars r fine.1 g in
+            let gy : (asked_for_small (are_small vars at) x).small ≡ true = subst (λ (b : Bool). (asked_for_small b x).small ≡ true) (sym own.1) gx in
+            either (is_made w tensor) (update_at tensor (stage_at (asked_for_small (are_small vars at) x).stages tensor) (map (place vars) at) by (value_of value vars (tensors_of w r)) (asked_for_small (are_small vars at) x)) (unalive (asked_for_small (are_small vars at) x))
+            (update_small tensor (stage_at (asked_for_small (are_small vars at) x).stages tensor) (map (place vars) at) by (value_of value vars (tensors_of w r)) (asked_for_small (are_small vars at) x) gy) gy,
+      )
+
+  smalls : (x : Stmt) → Smalls x
+  smalls = by_nodes Smalls (λ y. let u = plain Smalls y in
+      by_equations (roll-Stmt u) _ _ _ _ (fold-roll-Stmt (Scope → Bool) stmt_step u) (fold-roll-Stmt (List ℕ) bindings_step u) (fold-roll-Stmt Gathering stmt_places u) (λ vars r. ap (λ (a : Action). a vars r) (fold-roll-Stmt Action (act_step (staging w)) u)) (step y))
 
   pub statements_small : (body : List Stmt) → SmallsAll body
-  statements_small body = smalls_all body (all_by_kind Smalls cases body)
+  statements_small body = smalls_all body (each Smalls smalls body)
 
 pub accepted_is_small : (c : Checked) (inputs : List Storage) → IsAccepted c → (staged c inputs).small ≡ true
 accepted_is_small c inputs a =

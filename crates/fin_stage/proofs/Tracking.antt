@@ -7,21 +7,19 @@ use Rattle.fin_base.specs.declared.refusal.Rule.{Rule}
 use Rattle.fin_tensor.specs.Order.{ordered_levels}
 use Rattle.fin_ast.specs.declared.header.Header.{Header}
 use Rattle.fin_ast.specs.declared.tree.Index.{Index}
-use Rattle.fin_ast.specs.declared.tree.Stmt.{Stmt, map-Stmt}
+use Rattle.fin_ast.specs.declared.tree.Stmt.{Stmt, map-Stmt, roll-Stmt, fold-roll-Stmt}
 use Rattle.fin_ast.specs.declared.tree.Stmt.TheOpen.{Stmt-F}
-use Rattle.fin_ast.specs.declared.tree.Stmt.TheVariants as s
 use Rattle.fin_ast.specs.Bindings.{bindings_step, bindings_of, bindings_of_all}
 use Rattle.fin_ast.specs.Choices.{levels_of}
 use Rattle.fin_ast.specs.Order.{is_in_order, is_as_first}
 use Rattle.fin_ast.specs.Scope.{is_among}
-use Rattle.fin_ast.proofs.Nodes.{of_block, of_loop, of_cond, of_bind, of_declare, of_freeze, of_thaw, of_update}
 use Rattle.fin_life.specs.Tracks.{Tracks, declared, updated}
 use Rattle.fin_life.specs.Trails.{Trail, stmt_trail, trail_of, trails_of, breach_along, after_all, update_breach}
-use Rattle.fin_ast.proofs.Induction.{AllOf, Cases, Held, bare, plain, all_of, each, by_two, by_kind, all_by_kind}
+use Rattle.fin_ast.proofs.Induction.{AllOf, Held, bare, plain, all_of, each, by_nodes, by_two}
 use Rattle.fin_ast.proofs.Unbroken.{first_none, second_none, unbroken}
 use Rattle.fin_stage.proofs.Alive.{left, right, neither, not_not}
 use Rattle.fin_stage.proofs.Touching.{is_declaration_of, is_update_of, touches, any_touches, declares, any_declares, same_tensor, itself}
-use Rattle.fin_ast.proofs.Leaves.{leaf_step, leaf_block, leaf_loop, leaf_cond, leaf_bind, leaf_declare, leaf_freeze, leaf_thaw, leaf_update}
+use Rattle.fin_ast.proofs.Leaves.{leaf_step}
 
 -- ---- lists
 pub drop_end : (e : ℕ) (loops : List ℕ) (v : ℕ) → e ≤ length loops → drop e (loops ++ v ∷ []) ≡ drop e loops ++ v ∷ []
@@ -186,30 +184,38 @@ module _ (hs : List Header) (t : ℕ) where
         first_is None h k kd = refl
         first_is (Some f) h k kd = take_twice k depth (drop (tracks.entered t) f) (drop (tracks.entered t) loops) kd (same_numbers (take depth (drop (tracks.entered t) f)) (take depth (drop (tracks.entered t) loops)) h)
 
+  abbrev GoesBy : Trail → Bool → Bool → List ℕ → Type 0
+  GoesBy q b u binds = (loops : List ℕ) (tracks : Tracks) → b ≡ false → u ≡ true → tracks.entered t ≤ length loops → q.breach loops tracks ≡ None → Goes loops binds tracks (q.after loops tracks)
+
   goes_by : (x : Stmt) (q : Trail) (b : Bool) (u : Bool) (binds : List ℕ) → trail_of hs x ≡ q → declares t x ≡ b → touches t x ≡ u → bindings_of x ≡ binds
-      → ((loops : List ℕ) (tracks : Tracks) → b ≡ false → u ≡ true → tracks.entered t ≤ length loops → q.breach loops tracks ≡ None → Goes loops binds tracks (q.after loops tracks)) → GoesAlong x
+      → GoesBy q b u binds → GoesAlong x
   goes_by x q b u binds eq eb eu en f loops tracks nd te le e =
       subst (λ (y : Trail). Goes loops (bindings_of x) tracks (y.after loops tracks)) (sym eq)
       (subst (λ (vs : List ℕ). Goes loops vs tracks (q.after loops tracks)) (sym en) (f loops tracks (sym eb ∙ nd) (sym eu ∙ te) le (subst (λ (y : Trail). y.breach loops tracks ≡ None) eq e)))
 
-  goes_cases : Cases GoesAlong
-  goes_cases = record {
-    block = λ body line last all. goes_by (s.Block body line last) _ (any_declares t body) (any_touches t body) (bindings_of_all body) (of_block Trail (stmt_trail hs) body line last) (leaf_block (is_declaration_of t) body line last) (leaf_block (is_update_of t) body line last) (of_block (List ℕ) bindings_step body line last) (λ loops tracks nd te le e. body_goes body all loops tracks nd te le e);
-    loop = λ var range par body line last all. goes_by (s.Loop var range par body line last) _ (any_declares t body) (any_touches t body) (var ∷ bindings_of_all body) (of_loop Trail (stmt_trail hs) var range par body line last) (leaf_loop (is_declaration_of t) var range par body line last) (leaf_loop (is_update_of t) var range par body line last) (of_loop (List ℕ) bindings_step var range par body line last)
-        (λ loops tracks nd te le e. let (f, is, along) = body_goes body all (loops ++ var ∷ []) tracks nd te (omega (arith, le, long_end loops var)) e in (f, is, loop_goes loops var (tracks.entered t) (bindings_of_all body) f le along));
-    cond = λ test body line last all. goes_by (s.Cond test body line last) _ (any_declares t body) (any_touches t body) (bindings_of_all body) (of_cond Trail (stmt_trail hs) test body line last) (leaf_cond (is_declaration_of t) test body line last) (leaf_cond (is_update_of t) test body line last) (of_cond (List ℕ) bindings_step test body line last) (λ loops tracks nd te le e. body_goes body all loops tracks nd te le e);
-    bind = λ var value body line last all. goes_by (s.Bind var value body line last) _ (any_declares t body) (any_touches t body) (var ∷ bindings_of_all body) (of_bind Trail (stmt_trail hs) var value body line last) (leaf_bind (is_declaration_of t) var value body line last) (leaf_bind (is_update_of t) var value body line last) (of_bind (List ℕ) bindings_step var value body line last)
-        (λ loops tracks nd te le e. let (f, is, along) = body_goes body all loops tracks nd te le e in (f, is, wider loops (bindings_of_all body) (var ∷ bindings_of_all body) (tracks.entered t) f (λ v h. among_right (var ∷ []) (bindings_of_all body) v h) along));
-    declare = λ tensor value line. goes_by (s.Declare tensor value line) _ (nat_eq tensor t) false [] (of_declare Trail (stmt_trail hs) tensor value line) (leaf_declare (is_declaration_of t) tensor value line) (leaf_declare (is_update_of t) tensor value line) (of_declare (List ℕ) bindings_step tensor value line) (λ loops tracks nd te le e. absurd (let c : ◌≡◌ {A = Bool} false true = te in cc));
-    freeze = λ tensor line. goes_by (s.Freeze tensor line) _ false false [] (of_freeze Trail (stmt_trail hs) tensor line) (leaf_freeze (is_declaration_of t) tensor line) (leaf_freeze (is_update_of t) tensor line) (of_freeze (List ℕ) bindings_step tensor line) (λ loops tracks nd te le e. absurd (let c : ◌≡◌ {A = Bool} false true = te in cc));
-    thaw = λ tensor line. goes_by (s.Thaw tensor line) _ false false [] (of_thaw Trail (stmt_trail hs) tensor line) (leaf_thaw (is_declaration_of t) tensor line) (leaf_thaw (is_update_of t) tensor line) (of_thaw (List ℕ) bindings_step tensor line) (λ loops tracks nd te le e. absurd (let c : ◌≡◌ {A = Bool} false true = te in cc));
-    update = λ tensor at by value line. goes_by (s.Update tensor at by value line) _ false (nat_eq tensor t) [] (of_update Trail (stmt_trail hs) tensor at by value line) (leaf_update (is_declaration_of t) tensor at by value line) (leaf_update (is_update_of t) tensor at by value line) (of_update (List ℕ) bindings_step tensor at by value line)
-        (λ loops tracks nd te le e. let same : tensor ≡ t = same_tensor tensor t te in
-        subst (λ (k : ℕ). Goes loops [] tracks (updated k loops tracks)) (sym same) (update_goes at line loops tracks (subst (λ (k : ℕ). update_breach hs k at line loops tracks ≡ None) same e)));
-  }
+  goes_step : (y : Stmt-F (Held GoesAlong)) → (let u = plain GoesAlong y in GoesBy (stmt_trail hs (map-Stmt Stmt Trail (trail_of hs) u)) (leaf_step (is_declaration_of t) (map-Stmt Stmt Bool (declares t) u)) (leaf_step (is_update_of t) (map-Stmt Stmt Bool (touches t) u)) (bindings_step (map-Stmt Stmt (List ℕ) bindings_of u)))
+  goes_step (Stmt-F.Block xs line last) loops tracks nd te le e =
+      let body : List Stmt = bare GoesAlong xs in let all : AllOf GoesAlong body = all_of GoesAlong xs in
+      body_goes body all loops tracks nd te le e
+  goes_step (Stmt-F.Loop var range par xs line last) loops tracks nd te le e =
+      let body : List Stmt = bare GoesAlong xs in let all : AllOf GoesAlong body = all_of GoesAlong xs in
+      let (f, is, along) = body_goes body all (loops ++ var ∷ []) tracks nd te (omega (arith, le, long_end loops var)) e in (f, is, loop_goes loops var (tracks.entered t) (bindings_of_all body) f le along)
+  goes_step (Stmt-F.Cond test xs line last) loops tracks nd te le e =
+      let body : List Stmt = bare GoesAlong xs in let all : AllOf GoesAlong body = all_of GoesAlong xs in
+      body_goes body all loops tracks nd te le e
+  goes_step (Stmt-F.Bind var value xs line last) loops tracks nd te le e =
+      let body : List Stmt = bare GoesAlong xs in let all : AllOf GoesAlong body = all_of GoesAlong xs in
+      let (f, is, along) = body_goes body all loops tracks nd te le e in (f, is, wider loops (bindings_of_all body) (var ∷ bindings_of_all body) (tracks.entered t) f (λ v h. among_right (var ∷ []) (bindings_of_all body) v h) along)
+  goes_step (Stmt-F.Declare tensor value line) loops tracks nd te le e = absurd (let c : ◌≡◌ {A = Bool} false true = te in cc)
+  goes_step (Stmt-F.Freeze tensor line) loops tracks nd te le e = absurd (let c : ◌≡◌ {A = Bool} false true = te in cc)
+  goes_step (Stmt-F.Thaw tensor line) loops tracks nd te le e = absurd (let c : ◌≡◌ {A = Bool} false true = te in cc)
+  goes_step (Stmt-F.Update tensor at by value line) loops tracks nd te le e =
+      let same : tensor ≡ t = same_tensor tensor t te in
+      subst (λ (k : ℕ). Goes loops [] tracks (updated k loops tracks)) (sym same) (update_goes at line loops tracks (subst (λ (k : ℕ). update_breach hs k at line loops tracks ≡ None) same e))
 
   pub goes_along : (x : Stmt) → GoesAlong x
-  goes_along = by_kind GoesAlong goes_cases
+  goes_along = by_nodes GoesAlong (λ y. let u = plain GoesAlong y in
+      goes_by (roll-Stmt u) _ _ _ _ (fold-roll-Stmt Trail (stmt_trail hs) u) (fold-roll-Stmt Bool (leaf_step (is_declaration_of t)) u) (fold-roll-Stmt Bool (leaf_step (is_update_of t)) u) (fold-roll-Stmt (List ℕ) bindings_step u) (goes_step y))
 
   pub body_goes_along : (body : List Stmt) (loops : List ℕ) (tracks : Tracks) → any_declares t body ≡ false → any_touches t body ≡ true → tracks.entered t ≤ length loops → breach_along (trails_of hs body) loops tracks ≡ None → (f : List ℕ) × ((after_all (trails_of hs body) loops tracks).firsts t ≡ Some f) × Along loops (bindings_of_all body) (tracks.entered t) f
-  body_goes_along body = body_goes body (all_by_kind GoesAlong goes_cases body)
+  body_goes_along body = body_goes body (each GoesAlong goes_along body)
