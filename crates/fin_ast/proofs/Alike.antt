@@ -3,11 +3,12 @@ use Rattle.std.proofs.Common.{◌≡◌, ℕ, zero, suc, ◌+◌, ◌-◌, ℤ, 
 use Rattle.std.specs.Prelude.{slice_set}
 use Rattle.std.specs.Ordering.{int_eq}
 use Rattle.fin_ast.specs.declared.tree.Expr.{Expr}
-use Rattle.fin_ast.specs.declared.tree.Stmt.{Stmt, ind-Stmt, map-Stmt, roll-Stmt, fold-roll-Stmt}
+use Rattle.fin_ast.specs.declared.tree.Stmt.{Stmt, map-Stmt, fold-roll-Stmt}
 use Rattle.fin_ast.specs.declared.tree.Stmt.TheOpen.{Stmt-F}
 use Rattle.fin_ast.specs.Value.{Numbers}
 use Rattle.fin_ast.specs.Actions.{Action, Leaf, Declare, Freeze, Thaw, Update, Parts, in_turn, braced, repeated, where_holds, act_step, act, act_all}
-use Rattle.fin_ast.proofs.Leaves.{any_of, leaf_step, has_leaf, have_leaf}
+use Rattle.fin_ast.proofs.Induction.{AllOf, Held, bare, plain, all_of, each, by_nodes, by_three}
+use Rattle.fin_ast.proofs.Leaves.{leaf_step, has_leaf, have_leaf}
 
 -- R is of what the one does, and of what the other does; leaves that are such needn't be alike
 pub record AreAlike {S T : Type 0} (p : Parts S) (q : Parts T) (such : Leaf → Bool) (R : (S → S) → (T → T) → Type 0) : Type 0 where
@@ -40,71 +41,65 @@ module _ {S T : Type 0} (p : Parts S) (q : Parts T) (such : Leaf → Bool) (R : 
   holds_alike : (a : Action S) (b : Action T) → Alike a b → (vars : Numbers) (v : ℤ) → R (where_holds a vars v) (where_holds b vars v)
   holds_alike a b h vars v = elim (int_eq v (pos 0)) as (λ z. R (λ s. if z then s else a vars s) (λ t. if z then t else b vars t)) [ true ↦ like.still | false ↦ h vars ]
 
-  abbrev Held : Type 0
-  Held = (x : Stmt) × (has_leaf such x ≡ false → Alike (act p x) (act q x))
+  abbrev AlikeBy : Bool → Action S → Action T → Type 0
+  AlikeBy e a b = e ≡ false → Alike a b
 
-  all_alike : (xs : List Held) → any_of (map (has_leaf such) (map (λ x. x.0) xs)) ≡ false → Alike (in_turn (map (act p) (map (λ x. x.0) xs))) (in_turn (map (act q) (map (λ x. x.0) xs)))
-  all_alike [] e vars = like.still
-  all_alike (x ∷ xs) e vars =
-      let two = neither_of (has_leaf such x.0) (any_of (map (has_leaf such) (map (λ x. x.0) xs))) e in
-      like.joined (act p x.0 vars) (in_turn (map (act p) (map (λ x. x.0) xs)) vars) (act q x.0 vars) (in_turn (map (act q) (map (λ x. x.0) xs)) vars) (x.1 two.0 vars) (all_alike xs two.1 vars)
+  abbrev Likes : Stmt → Type 0
+  Likes x = AlikeBy (has_leaf such x) (act p x) (act q x)
 
-  body_alike : (xs : List Held) → any_of (map (has_leaf such) (map (λ x. x.0) xs)) ≡ false → Alike (braced p.brace (in_turn (map (act p) (map (λ x. x.0) xs)))) (braced q.brace (in_turn (map (act q) (map (λ x. x.0) xs))))
-  body_alike xs e = braced_alike (in_turn (map (act p) (map (λ x. x.0) xs))) (in_turn (map (act q) (map (λ x. x.0) xs))) (all_alike xs e)
+  all_alike : (xs : List Stmt) → AllOf Likes xs → AlikeBy (have_leaf such xs) (act_all p xs) (act_all q xs)
+  all_alike [] all e vars = like.still
+  all_alike (x ∷ xs) all e vars =
+      let two = neither_of (has_leaf such x) (have_leaf such xs) e in
+      like.joined (act p x vars) (act_all p xs vars) (act q x vars) (act_all q xs vars) (all.0 two.0 vars) (all_alike xs all.1 two.1 vars)
 
-  step_alike : (y : Stmt-F Held) → leaf_step such (map-Stmt Stmt Bool (has_leaf such) (map-Stmt Held Stmt (λ x. x.0) y)) ≡ false
-      → Alike (act_step p (map-Stmt Stmt (Action S) (act p) (map-Stmt Held Stmt (λ x. x.0) y))) (act_step q (map-Stmt Stmt (Action T) (act q) (map-Stmt Held Stmt (λ x. x.0) y)))
-  step_alike (Stmt-F.Block body line last) e vars = body_alike body e vars
-  step_alike (Stmt-F.Loop var range par body line last) e vars =
-      let a : Action S = braced p.brace (in_turn (map (act p) (map (λ x. x.0) body))) in
-      let b : Action T = braced q.brace (in_turn (map (act q) (map (λ x. x.0) body))) in
+  body_alike : (xs : List (Held Likes)) → AlikeBy (have_leaf such (bare Likes xs)) (braced p.brace (act_all p (bare Likes xs))) (braced q.brace (act_all q (bare Likes xs)))
+  body_alike xs e = braced_alike (act_all p (bare Likes xs)) (act_all q (bare Likes xs)) (all_alike (bare Likes xs) (all_of Likes xs) e)
+
+  step : (y : Stmt-F (Held Likes)) → (let u = plain Likes y in AlikeBy (leaf_step such (map-Stmt Stmt Bool (has_leaf such) u)) (act_step p (map-Stmt Stmt (Action S) (act p) u)) (act_step q (map-Stmt Stmt (Action T) (act q) u)))
+  step (Stmt-F.Block body line last) e vars = body_alike body e vars
+  step (Stmt-F.Loop var range par body line last) e vars =
+      let a : Action S = braced p.brace (act_all p (bare Likes body)) in
+      let b : Action T = braced q.brace (act_all q (bare Likes body)) in
       let n : ℕ × ℕ = p.range var in
       subst (λ (m : ℕ × ℕ). R (λ s. repeated p.turn (n.1 - n.0) n.0 var a vars (p.entry var vars s)) (λ t. repeated q.turn (m.1 - m.0) m.0 var b vars (q.entry var vars t))) (like.range var)
       (like.joined (p.entry var vars) (repeated p.turn (n.1 - n.0) n.0 var a vars) (q.entry var vars) (repeated q.turn (n.1 - n.0) n.0 var b vars) (like.entry var vars) (repeated_alike (n.1 - n.0) n.0 var a b (body_alike body e) vars))
-  step_alike (Stmt-F.Cond test body line last) e vars = like.value test vars _ _ (holds_alike _ _ (body_alike body e) vars)
-  step_alike (Stmt-F.Bind var value body line last) e vars = like.value value vars _ _ (λ v. body_alike body e (slice_set vars var v))
-  step_alike (Stmt-F.Declare tensor value line) e vars = like.leaf (Declare tensor) vars e
-  step_alike (Stmt-F.Freeze tensor line) e vars = like.leaf (Freeze tensor) vars e
-  step_alike (Stmt-F.Thaw tensor line) e vars = like.leaf (Thaw tensor) vars e
-  step_alike (Stmt-F.Update tensor at by value line) e vars = like.leaf (Update tensor at by value) vars e
+  step (Stmt-F.Cond test body line last) e vars = like.value test vars _ _ (holds_alike _ _ (body_alike body e) vars)
+  step (Stmt-F.Bind var value body line last) e vars = like.value value vars _ _ (λ v. body_alike body e (slice_set vars var v))
+  step (Stmt-F.Declare tensor value line) e vars = like.leaf (Declare tensor) vars e
+  step (Stmt-F.Freeze tensor line) e vars = like.leaf (Freeze tensor) vars e
+  step (Stmt-F.Thaw tensor line) e vars = like.leaf (Thaw tensor) vars e
+  step (Stmt-F.Update tensor at by value line) e vars = like.leaf (Update tensor at by value) vars e
 
   pub act_alike : (x : Stmt) → has_leaf such x ≡ false → Alike (act p x) (act q x)
-  act_alike = ind-Stmt (λ x. has_leaf such x ≡ false → Alike (act p x) (act q x)) (λ z y is e vars.
-      let leaves = ap (λ (u : Stmt-F Stmt). leaf_step such (map-Stmt Stmt Bool (has_leaf such) u)) is ∙ sym (fold-roll-Stmt Bool (leaf_step such) z) in
-      let first = ap (λ (u : Stmt-F Stmt). act_step p (map-Stmt Stmt (Action S) (act p) u)) is ∙ sym (fold-roll-Stmt (Action S) (act_step p) z) in
-      let second = ap (λ (u : Stmt-F Stmt). act_step q (map-Stmt Stmt (Action T) (act q) u)) is ∙ sym (fold-roll-Stmt (Action T) (act_step q) z) in
-      subst (λ (b : Action T). R (act p (roll-Stmt z) vars) (b vars)) second (subst (λ (a : Action S). R (a vars) (act_step q (map-Stmt Stmt (Action T) (act q) (map-Stmt Held Stmt (λ x. x.0) y)) vars)) first (step_alike y (leaves ∙ e) vars)))
+  act_alike = by_three (leaf_step such) (act_step p) (act_step q) AlikeBy step
 
   pub act_all_alike : (body : List Stmt) → have_leaf such body ≡ false → Alike (act_all p body) (act_all q body)
-  act_all_alike [] e vars = like.still
-  act_all_alike (x ∷ body) e vars =
-      let two = neither_of (has_leaf such x) (have_leaf such body) e in
-      like.joined (act p x vars) (act_all p body vars) (act q x vars) (act_all q body vars) (act_alike x two.0 vars) (act_all_alike body two.1 vars)
+  act_all_alike body = all_alike body (each Likes act_alike body)
 
 -- ---- of all leaves, and of one evaluation alone
 
 abbrev pub none : Leaf → Bool
 none l = false
 
-no_leaves : (xs : List ((x : Stmt) × (has_leaf none x ≡ false))) → any_of (map (has_leaf none) (map (λ x. x.0) xs)) ≡ false
-no_leaves [] = refl
-no_leaves (x ∷ xs) = ap (λ (b : Bool). b || any_of (map (has_leaf none) (map (λ x. x.0) xs))) x.1 ∙ no_leaves xs
+abbrev HasNone : Stmt → Type 0
+HasNone x = has_leaf none x ≡ false
 
-pub no_leaf : (x : Stmt) → has_leaf none x ≡ false
-no_leaf = ind-Stmt (λ x. has_leaf none x ≡ false) (λ z y is. sym (ap (λ (u : Stmt-F Stmt). leaf_step none (map-Stmt Stmt Bool (has_leaf none) u)) is ∙ sym (fold-roll-Stmt Bool (leaf_step none) z)) ∙ step y) where
-  step : (y : Stmt-F ((x : Stmt) × (has_leaf none x ≡ false))) → leaf_step none (map-Stmt Stmt Bool (has_leaf none) (map-Stmt ((x : Stmt) × (has_leaf none x ≡ false)) Stmt (λ x. x.0) y)) ≡ false
-  step (Stmt-F.Block body line last) = no_leaves body
-  step (Stmt-F.Loop var range par body line last) = no_leaves body
-  step (Stmt-F.Cond test body line last) = no_leaves body
-  step (Stmt-F.Bind var value body line last) = no_leaves body
-  step (Stmt-F.Declare tensor value line) = refl
-  step (Stmt-F.Freeze tensor line) = refl
-  step (Stmt-F.Thaw tensor line) = refl
-  step (Stmt-F.Update tensor at by value line) = refl
+all_none : (xs : List Stmt) → AllOf HasNone xs → have_leaf none xs ≡ false
+all_none [] all = refl
+all_none (x ∷ xs) all = ap (λ (b : Bool). b || have_leaf none xs) all.0 ∙ all_none xs all.1
+
+no_leaf : (x : Stmt) → HasNone x
+no_leaf = by_nodes HasNone (λ y. fold-roll-Stmt Bool (leaf_step none) (plain HasNone y) ∙ step y) where
+  step : (y : Stmt-F (Held HasNone)) → leaf_step none (map-Stmt Stmt Bool (has_leaf none) (plain HasNone y)) ≡ false
+  step (Stmt-F.Block body line last) = all_none (bare HasNone body) (all_of HasNone body)
+  step (Stmt-F.Loop var range par body line last) = all_none (bare HasNone body) (all_of HasNone body)
+  step (Stmt-F.Cond test body line last) = all_none (bare HasNone body) (all_of HasNone body)
+  step (Stmt-F.Bind var value body line last) = all_none (bare HasNone body) (all_of HasNone body)
+  step _ = refl
 
 pub no_leaf_in : (body : List Stmt) → have_leaf none body ≡ false
-no_leaf_in [] = refl
-no_leaf_in (x ∷ body) = ap (λ (b : Bool). b || have_leaf none body) (no_leaf x) ∙ no_leaf_in body
+no_leaf_in body = all_none body (each HasNone no_leaf body)
 
 -- it has no state, and does nothing
 abbrev pub idle : (ℕ → ℕ × ℕ) → Parts (Unit {0})

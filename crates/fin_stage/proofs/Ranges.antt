@@ -7,14 +7,13 @@ use Rattle.fin_ast.specs.declared.place.Place.TheVariants.{Loop, Let, Use}
 use Rattle.fin_ast.specs.declared.tree.Index.{Index}
 use Rattle.fin_ast.specs.declared.tree.Expr.{Expr, ind-Expr, map-Expr, fold-roll-Expr}
 use Rattle.fin_ast.specs.declared.tree.Expr.TheOpen.{Expr-F}
-use Rattle.fin_ast.specs.declared.tree.Stmt.{Stmt}
-use Rattle.fin_ast.specs.declared.tree.Stmt.TheVariants as s
+use Rattle.fin_ast.specs.declared.tree.Stmt.{Stmt, map-Stmt}
+use Rattle.fin_ast.specs.declared.tree.Stmt.TheOpen.{Stmt-F}
 use Rattle.fin_ast.specs.Bindings.{bindings_step, bindings_of, bindings_of_all}
 use Rattle.fin_ast.specs.Places.{Gathering, uses_of, expr_places, places_of_expr, stmt_places, places_of, places_of_all}
 use Rattle.fin_ast.specs.Sizes.{range_of, ranges_of}
 use Rattle.fin_ast.specs.Ties.{Extents}
-use Rattle.fin_ast.proofs.Induction.{AllOf, Cases, all_by_kind}
-use Rattle.fin_ast.proofs.Nodes.{of_block, of_loop, of_cond, of_bind, of_declare, of_freeze, of_thaw, of_update}
+use Rattle.fin_ast.proofs.Induction.{AllOf, Held, bare, plain, all_of, each, by_two}
 
 module _ (extent : Extents) where
   abbrev count : List Place → ℕ
@@ -47,29 +46,31 @@ module _ (extent : Extents) where
   expr_count : (e : Expr) → Level (places_of_expr e)
   expr_count = ind-Expr (λ e. Level (places_of_expr e)) (λ z y is. subst Level (ap (λ (u : Expr-F Expr). expr_places (map-Expr Expr Gathering places_of_expr u)) is ∙ sym (fold-roll-Expr Gathering expr_places z)) (expr_step y))
 
+  abbrev CountsBy : Gathering → List ℕ → Type 0
+  CountsBy g binds = (before : List Place) → count (g before) ≡ count before + length binds
+
   abbrev Counts : Stmt → Type 0
-  Counts x = (before : List Place) → count (places_of x before) ≡ count before + length (bindings_of x)
+  Counts x = CountsBy (places_of x) (bindings_of x)
 
   all_count : (body : List Stmt) → AllOf Counts body → (before : List Place) → count (places_of_all body before) ≡ count before + length (bindings_of_all body)
   all_count [] all before = omega arith
   all_count (x ∷ body) all before = all_count body all.1 (places_of x before) ∙ omega (arith, all.0 before, length-append (bindings_of x) (bindings_of_all body))
 
-  counts_by : (x : Stmt) (g : Gathering) (binds : List ℕ) → places_of x ≡ g → bindings_of x ≡ binds → ((before : List Place) → count (g before) ≡ count before + length binds) → Counts x
-  counts_by x g binds eg eb f before = ap (λ (h : Gathering). count (h before)) eg ∙ f before ∙ ap (λ (vs : List ℕ). count before + length vs) (sym eb)
+  body_counts : (xs : List (Held Counts)) → CountsBy (places_of_all (bare Counts xs)) (bindings_of_all (bare Counts xs))
+  body_counts xs = all_count (bare Counts xs) (all_of Counts xs)
 
-  cases : Cases Counts
-  cases = record {
-    block = λ body line last all. counts_by (s.Block body line last) _ _ (of_block Gathering stmt_places body line last) (of_block (List ℕ) bindings_step body line last) (all_count body all);
-    loop = λ var range par body line last all. counts_by (s.Loop var range par body line last) _ _ (of_loop Gathering stmt_places var range par body line last) (of_loop (List ℕ) bindings_step var range par body line last)
-        (λ before. all_count body all (before ++ Loop var range line ∷ []) ∙ omega (arith, count_append before (Loop var range line), loop_counts var range line));
-    cond = λ test body line last all. counts_by (s.Cond test body line last) _ _ (of_cond Gathering stmt_places test body line last) (of_cond (List ℕ) bindings_step test body line last) (λ before. all_count body all (places_of_expr test before) ∙ omega (arith, expr_count test before));
-    bind = λ var value body line last all. counts_by (s.Bind var value body line last) _ _ (of_bind Gathering stmt_places var value body line last) (of_bind (List ℕ) bindings_step var value body line last)
-        (λ before. all_count body all (places_of_expr value (before ++ Let ∷ [])) ∙ omega (arith, expr_count value (before ++ Let ∷ []), count_append before Let));
-    declare = λ tensor value line. counts_by (s.Declare tensor value line) _ _ (of_declare Gathering stmt_places tensor value line) (of_declare (List ℕ) bindings_step tensor value line) (λ before. omega arith);
-    freeze = λ tensor line. counts_by (s.Freeze tensor line) _ _ (of_freeze Gathering stmt_places tensor line) (of_freeze (List ℕ) bindings_step tensor line) (λ before. omega arith);
-    thaw = λ tensor line. counts_by (s.Thaw tensor line) _ _ (of_thaw Gathering stmt_places tensor line) (of_thaw (List ℕ) bindings_step tensor line) (λ before. omega arith);
-    update = λ tensor at by value line. counts_by (s.Update tensor at by value line) _ _ (of_update Gathering stmt_places tensor at by value line) (of_update (List ℕ) bindings_step tensor at by value line) (λ before. omega (arith, expr_count value (uses_of line (8 * tensor) at before), uses_count line (8 * tensor) at before));
-  }
+  step : (y : Stmt-F (Held Counts)) → CountsBy (stmt_places (map-Stmt Stmt Gathering places_of (plain Counts y))) (bindings_step (map-Stmt Stmt (List ℕ) bindings_of (plain Counts y)))
+  step (Stmt-F.Block body line last) before = body_counts body before
+  step (Stmt-F.Loop var range par body line last) before = body_counts body (before ++ Loop var range line ∷ []) ∙ omega (arith, count_append before (Loop var range line), loop_counts var range line)
+  step (Stmt-F.Cond test body line last) before = body_counts body (places_of_expr test before) ∙ omega (arith, expr_count test before)
+  step (Stmt-F.Bind var value body line last) before = body_counts body (places_of_expr value (before ++ Let ∷ [])) ∙ omega (arith, expr_count value (before ++ Let ∷ []), count_append before Let)
+  step (Stmt-F.Declare tensor value line) before = omega arith
+  step (Stmt-F.Freeze tensor line) before = omega arith
+  step (Stmt-F.Thaw tensor line) before = omega arith
+  step (Stmt-F.Update tensor at by value line) before = omega (arith, expr_count value (uses_of line (8 * tensor) at before), uses_count line (8 * tensor) at before)
+
+  counts : (x : Stmt) → Counts x
+  counts = by_two stmt_places bindings_step CountsBy step
 
   pub ranges_count : (body : List Stmt) → count (places_of_all body []) ≡ length (bindings_of_all body)
-  ranges_count body = omega (arith, all_count body (all_by_kind Counts cases body) [])
+  ranges_count body = omega (arith, all_count body (each Counts counts body) [])
