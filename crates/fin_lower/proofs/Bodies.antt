@@ -18,7 +18,7 @@ use Rattle.fin_lower.proofs.Related.{Live, Related}
 use Rattle.fin_lower.proofs.Still.{all_still}
 use Rattle.fin_lower.proofs.Pinning.{live_closed, goes_on, related_on}
 use Rattle.fin_lower.proofs.Placed.{Placed, StmtFits, BodyFits, first_fits, rest_fits}
-use Rattle.fin_lower.proofs.Valued.{regular_before}
+use Rattle.fin_stage.proofs.Trailing.{regular_before}
 
 module _ (c : Checked) (inputs : List Storage) where
   -- the code of a statement does what the statement does

@@ -91,10 +91,3 @@ module _ (c : Checked) (inputs : List Storage) (pins : List ℤ) (r : Run) (m : 
         let there : held m.tensors t ≡ stored _ = live.given t (ap is_none n) ∙ q.3.tensor in
         let own : held m.tensors t ≡ building b = subst (λ (s : Stage). Stand s (held m.tensors t)) e (live.each t) in
         cc
-
--- ---- flags
-
--- what asks for what it can't do isn't regular
-pub made_by : (b : Bool) (x r : Run) → regular (if b then x else unalive r) ≡ true → b ≡ true
-made_by true x r e = refl
-made_by false x r e = cc

@@ -42,7 +42,8 @@ use Rattle.fin_lower.proofs.Related.{Stand, Live, Over, Related}
 use Rattle.fin_lower.proofs.Headed.{formats_are, kind_is, input_number, shapes_long, builds_there}
 use Rattle.fin_lower.proofs.Given.{made_is_other}
 use Rattle.fin_lower.proofs.Seen.{few_of, canon_valid, seen_held, stage_there}
-use Rattle.fin_lower.proofs.Changed.{paid, charge_pays, number_pays, cut_pays, worked_live, changed_to, changed_live, built_is_made, made_by}
+use Rattle.fin_lower.proofs.Changed.{paid, charge_pays, number_pays, cut_pays, worked_live, changed_to, changed_live, built_is_made}
+use Rattle.fin_stage.proofs.Trailing.{made_by}
 
 storing_small : (b : Building) → is_large b ≡ false → work_of_storing b.format b.function ≡ 1 + length (canon b).val
 storing_small b e =

@@ -23,7 +23,7 @@ use Rattle.fin_ast.specs.Dense.{made_at, setting_of}
 use Rattle.fin_ast.specs.Shaped.{FitHeaders}
 use Rattle.fin_ir.specs.Frozen.{frozen_of, canon, is_large}
 use Rattle.fin_ir.specs.Machine.{Machine, Tensor, stored, over, held, seen}
-use Rattle.fin_ir.proofs.Freezing.{few_allowed}
+use Rattle.fin_tensor.proofs.Allowed.{allowed_by}
 use Rattle.fin_stage.specs.Stages.{Stage, Absent, Built, Frozen, stage_at, frozen_in, readable}
 use Rattle.fin_stage.specs.Staged.{Run}
 use Rattle.fin_stage.specs.Fitting.{FunctionFits, StageFits}
@@ -58,7 +58,7 @@ few_of b e = not-false (is_allowed b.format.levels b.function.fill b.function.sh
 pub canon_valid : (b : Building) → RunsStandLast b.format.levels → length b.function.shape ≡ length b.format.levels → AreSmall b.function.shape → is_large b ≡ false → IsStored 1 b.format.levels b.function.shape (canon b).parts (canon b).val
 canon_valid b runs long small few =
     slices_are_valid b.format.levels b.function.fill b.function.shape (value_at b.function ∷ []) (placed_over b.format.levels b.function.shape runs long) small
-    (few_allowed b.format.levels b.function.fill b.function.shape (value_at b.function ∷ []) (few_of b few))
+    (allowed_by b.format.levels b.function.fill b.function.shape (value_at b.function ∷ []) (few_of b few))
 
 -- what was frozen
 frozen_seen : (ts : ℕ → Tensor) (t : ℕ) (b : Building) → ts t ≡ stored (canon b) → RunsStandLast b.format.levels → length b.function.shape ≡ length b.format.levels → AreSmall b.function.shape → is_large b ≡ false →

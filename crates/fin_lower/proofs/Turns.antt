@@ -13,7 +13,7 @@ use Rattle.fin_lower.specs.Plans.{layout_of}
 use Rattle.fin_lower.proofs.Related.{Live, Related}
 use Rattle.fin_lower.proofs.Still.{Stills, stills, for_turns_still}
 use Rattle.fin_lower.proofs.Pinning.{SameBut, same_but_set, alive, live_as, live_set, goes_on}
-use Rattle.fin_lower.proofs.Valued.{regular_before}
+use Rattle.fin_stage.proofs.Trailing.{regular_before}
 
 module _ (c : Checked) (inputs : List Storage) where
   counted : (ps : List ℤ) (r : Run) (m : Machine) → Live c inputs ps r m → Live c inputs ps r (count_turn m)

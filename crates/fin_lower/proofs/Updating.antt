@@ -31,7 +31,8 @@ use Rattle.fin_lower.specs.Lowering.{charge_of}
 use Rattle.fin_lower.specs.Plans.{heads_in, layout_of}
 use Rattle.fin_lower.proofs.Related.{Stand, Live, Related}
 use Rattle.fin_lower.proofs.Seen.{stage_there}
-use Rattle.fin_lower.proofs.Changed.{paid, number_pays, worked_live, changed_to, changed_live, made_by}
+use Rattle.fin_lower.proofs.Changed.{paid, number_pays, worked_live, changed_to, changed_live}
+use Rattle.fin_stage.proofs.Trailing.{made_by}
 use Rattle.fin_lower.proofs.Inside.{coordinates_are}
 
 -- an update in the box alone, which is work anywhere

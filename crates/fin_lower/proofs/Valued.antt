@@ -38,12 +38,6 @@ good r e = record {
   ordered = right (r.alive && r.small) r.ordered e;
 }
 
-good_is_regular : (r : Run) → Good r → regular r ≡ true
-good_is_regular r g = both (r.alive && r.small) r.ordered (both r.alive r.small g.alive g.small) g.ordered
-
-pub regular_before : (r n : Run) → Onward r n → regular n ≡ true → regular r ≡ true
-regular_before r n o e = good_is_regular r (good_before r n o (good n e))
-
 read_good : (b : Bool) (r : Run) → Good (asked_to_read b r) → b ≡ true
 read_good true r g = refl
 read_good false r g = g.alive

@@ -81,7 +81,7 @@ pub run_itself : (r : Run) → RunTrails r r
 run_itself r = record { long = refl; stages = λ t. stage_itself (stage_at r.stages t); work = refl; regular = λ h. h }
 
 -- what is tested holds where the run stays regular
-made_by : (b : Bool) (x r : Run) → regular (if b then x else unalive r) ≡ true → b ≡ true
+pub made_by : (b : Bool) (x r : Run) → regular (if b then x else unalive r) ≡ true → b ≡ true
 made_by true x r e = refl
 made_by false x r e = cc
 
