@@ -24,7 +24,8 @@ pub struct Header {
     pub format: Format,
     pub shape: Option<Nums>,
     pub line: u32,
-    pub ghost placed: { IsPlacedAs (is_input kind) format.levels format.wrap } by { IsPlacedAs-prop (is_input kind) format.levels format.wrap },
+    pub ghost placed: { IsPlacedAs (is_input kind) format.levels format.wrap } by { IsPlacedAs-prop
+        (is_input kind) format.levels format.wrap },
     pub ghost shaped: { IsTrue (has_length (length format.levels) shape) },
 }
 

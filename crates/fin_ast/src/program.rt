@@ -28,7 +28,8 @@ pub struct Program {
     pub body: Items<Stmt>,
     pub last: u32,
     pub ghost few: { length headers ≤ 64 },
-    pub ghost distinct: { IsDistinct (pointwise nat_eq) (names_of headers) } by { IsDistinct-prop (pointwise nat_eq) (names_of headers) },
+    pub ghost distinct: { IsDistinct (pointwise nat_eq) (names_of headers) } by { IsDistinct-prop
+        (pointwise nat_eq) (names_of headers) },
     pub ghost numbered: { IsTrue (counts_from 0 (bindings_of_all body)) },
     pub ghost named: { IsTrue (are_named body (outermost headers)) },
     pub ghost shallow: { IsShallow body },
