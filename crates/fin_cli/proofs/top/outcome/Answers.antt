@@ -2,7 +2,7 @@ use Rattle.std.proofs.Common.{ap, refl, subst, sym, [], IsOk, Bool}
 use Rattle.fin_base.specs.declared.refusal.Rule.TheVariants.{S2}
 use Rattle.fin_words.specs.declared.mode.Mode.{Mode}
 use Rattle.fin_cli.specs.Due.{IsDueMode, reads_job}
-use Rattle.fin_cli.specs.Ends.{Reads, across}
+use Rattle.fin_cli.specs.Ends.{Reads, across, over}
 use Rattle.fin_cli.proofs.Comings.{comes_of_mode, refuses_comes}
 use Rattle.fin_cli.proofs.Jobs.{job_of, no_job}
 use Rattle.fin_cli.proofs.top.outcome.Goals as goal
@@ -22,7 +22,7 @@ returns-in-Gen-clause-comes g c =
 
 pub returns-in_default-clause-comes : goal.returns-in_default-clause-comes
 returns-in_default-clause-comes g c =
-    let source = across (g.S.Source.left c.args.source.now) (g.S.Source.left c.read_and_serve.new.source) (g.S.Source.faults c.args.source.now) (g.S.Source.faults c.read_and_serve.new.source) in
-    let out = across (g.O.Sink.taken c.args.out.now) (g.O.Sink.taken c.read_and_serve.new.out) (g.O.Sink.faults c.args.out.now) (g.O.Sink.faults c.read_and_serve.new.out) in
+    let source = over g.S.Source.left g.S.Source.faults c.args.source.now c.read_and_serve.new.source in
+    let out = over g.O.Sink.taken g.O.Sink.faults c.args.out.now c.read_and_serve.new.out in
     let came = c.read_and_serve.ensures.comes in
     comes_of_mode c.args.asked.now.budget c.args.asked.now.mode source out came.0 c.read_and_serve.result c.in_default.not-Gen came.1 came.2

@@ -4,7 +4,7 @@ use Rattle.std.proofs.KnownBytes.{Appends-nil}
 use Rattle.fin_words.specs.Reading.{reading}
 use Rattle.fin_words.specs.declared.mode.Asked.{Asked}
 use Rattle.fin_cli.specs.Due.{IsDue, reads, unread}
-use Rattle.fin_cli.specs.Ends.{Ends, Reads, across}
+use Rattle.fin_cli.specs.Ends.{Ends, Reads, across, over}
 use Rattle.fin_cli.proofs.Endings.{ends_told}
 use Rattle.fin_cli.proofs.Jobs.{finished_by, job_of, no_job}
 use Rattle.fin_cli.proofs.Serving.{serves_memory}
@@ -14,9 +14,9 @@ pub returns-in-Ok-Some-clause-serves : goal.returns-in-Ok-Some-clause-serves
 returns-in-Ok-Some-clause-serves g c =
     let left = g.S.Source.left in let faults = g.S.Source.faults in
     let old = c.args.source.now in let new = c.outcome.new.source in
-    let source = across (left old) (left new) (faults old) (faults new) in
-    let out = across (g.O.Sink.taken c.args.out.now) (g.O.Sink.taken c.outcome.new.out) (g.O.Sink.faults c.args.out.now) (g.O.Sink.faults c.outcome.new.out) in
-    let err = across (g.E.Sink.taken c.args.err.now) (g.E.Sink.taken c.report.new.err) (g.E.Sink.faults c.args.err.now) (g.E.Sink.faults c.report.new.err) in
+    let source = over left faults old new in
+    let out = over g.O.Sink.taken g.O.Sink.faults c.args.out.now c.outcome.new.out in
+    let err = over g.E.Sink.taken g.E.Sink.faults c.args.err.now c.report.new.err in
     let asked = c.in-Ok-Some.asked in
     let is : Some asked ≡ reading (map string_bytes c.args.words.now) = sym c.in-Ok-Some.field-0-is ∙ c.in-Ok-Some.ensures.value in
     let came = c.outcome.ensures.comes in
@@ -33,7 +33,7 @@ returns-in-Ok-None-clause-serves g c =
     let source = across left left faults faults in
     let took = g.O.Sink.taken c.args.out.now in let out_faults = g.O.Sink.faults c.args.out.now in
     let out = across took took out_faults out_faults in
-    let err = across (g.E.Sink.taken c.args.err.now) (g.E.Sink.taken c.tell.new.err) (g.E.Sink.faults c.args.err.now) (g.E.Sink.faults c.tell.new.err) in
+    let err = over g.E.Sink.taken g.E.Sink.faults c.args.err.now c.tell.new.err in
     let is : None ≡ reading (map string_bytes c.args.words.now) = sym c.in-Ok-None.field-0-is ∙ c.in-Ok-None.ensures.value in
     let job = job_of left [] in (
       job,
@@ -46,5 +46,5 @@ pub returns-in-Err-clause-serves : goal.returns-in-Err-clause-serves
 returns-in-Err-clause-serves g c =
     let left = g.S.Source.left c.args.source.now in let faults = g.S.Source.faults c.args.source.now in
     let took = g.O.Sink.taken c.args.out.now in let out_faults = g.O.Sink.faults c.args.out.now in
-    let err = across (g.E.Sink.taken c.args.err.now) (g.E.Sink.taken c.try_to_tell.new.err) (g.E.Sink.faults c.args.err.now) (g.E.Sink.faults c.try_to_tell.new.err) in
+    let err = over g.E.Sink.taken g.E.Sink.faults c.args.err.now c.try_to_tell.new.err in
     serves_memory (reading (map string_bytes c.args.words.now)) (across left left faults faults) (across took took out_faults out_faults) err refl refl c.try_to_tell.ensures.tries
