@@ -19,7 +19,7 @@ use Rattle.fin_ir.specs.Value.{extents_in, parts_in, value_of}
 use Rattle.fin_ir.proofs.Values.{value_cell, value_seek, value_num}
 use Rattle.fin_ir.proofs.Seeks.{sought_in}
 use Rattle.fin_read.specs.Steps.{Agree}
-use Rattle.fin_read.specs.Reads.{none, fibre_begin, fibre_end, where_placed, sought, found, in_block, step_to, level_steps}
+use Rattle.fin_read.specs.Reads.{none, fibre_begin, fibre_end, where_placed, sought, found, in_block, step_to, level_steps, place_of}
 use Rattle.fin_read.specs.Means.{IsRead}
 use Rattle.fin_read.proofs.Stepping.{agree_set, one_step, two_steps}
 use Rattle.fin_read.proofs.Placing.{add_small, mul_small, sub_small, sub_below, eq_is, choice_of, choice_equal, two_of, local_is, placed, not_placed, picked_placed, picked_none}
@@ -49,7 +49,7 @@ pub record LevelIs (ts : ℕ → Tensor) (tensor k : ℕ) (l : Level) (n count :
 
 -- ---- where there is no position
 
-pub none_stays : (ts : ℕ → Tensor) (tensor k : ℕ) (l : Level) (n : ℕ) (x : IExpr) (at : ℕ) (ls : List ℤ) → at + 1 < length ls → Holds at ls (negsuc 0) → IsRead ts (level_steps tensor k l n x at) at ls (negsuc 0)
+pub none_stays : (ts : ℕ → Tensor) (tensor k : ℕ) (l : Level) (n : ℕ) (x : IExpr) (at : ℕ) (ls : List ℤ) → at + 1 < length ls → Holds at ls (negsuc 0) → IsRead ts (level_steps (place_of tensor k at) l n x) at ls (negsuc 0)
 none_stays ts tensor k level.Dense n x at ls lt h = one_step ts at ls _ (negsuc 0) (omega (arith, lt)) (not_placed ts ls at _ h)
 none_stays ts tensor k level.List n x at ls lt h = two_steps ts at ls _ _ (negsuc 0) lt (not_placed ts _ at _ (agree_set (at + 1) (at + 1) ls _ (omega arith) at (omega arith) ∙ h))
 none_stays ts tensor k level.Dict n x at ls lt h = two_steps ts at ls _ _ (negsuc 0) lt (not_placed ts _ at _ (agree_set (at + 1) (at + 1) ls _ (omega arith) at (omega arith) ∙ h))
@@ -68,20 +68,20 @@ module _ (ts : ℕ → Tensor) (tensor k : ℕ) (l : Level) (n count : ℕ) (p :
   seek_is x y key ls a b c f g i =
       value_seek ts ls tensor k x y key ∙ rw (f, g, i, h.extent, h.count_is, h.part_is) refl
 
-  begin_is : (at q : ℕ) (ls : List ℤ) → Holds at ls (pos q) → value_of (fibre_begin tensor k at) ts ls ≡ pos (slice_index (table_in table.Ptr p) q)
+  begin_is : (at q : ℕ) (ls : List ℤ) → Holds at ls (pos q) → value_of (fibre_begin (place_of tensor k at)) ts ls ≡ pos (slice_index (table_in table.Ptr p) q)
   begin_is at q ls f = cell_is table.Ptr (e.Local at) ls (pos q) (local_is ts ls at (pos q) f)
 
-  end_is : (at q : ℕ) (ls : List ℤ) → q < count → Holds at ls (pos q) → value_of (fibre_end tensor k at) ts ls ≡ pos (slice_index (table_in table.Ptr p) (q + 1))
+  end_is : (at q : ℕ) (ls : List ℤ) → q < count → Holds at ls (pos q) → value_of (fibre_end (place_of tensor k at)) ts ls ≡ pos (slice_index (table_in table.Ptr p) (q + 1))
   end_is at q ls lt f =
       cell_is table.Ptr (e.Two op.Add (e.Local at) (e.Num (pos 1))) ls (pos (q + 1))
       (two_of ts ls op.Add (e.Local at) (e.Num (pos 1)) (pos q) (pos 1) (local_is ts ls at (pos q) f) (value_num ts ls (pos 1)) ∙ add_small q 1 (omega (arith, lt, h.few)))
 
   -- a search of the fibre at a position, where the level has numbers
   search_is : (at q c : ℕ) (x : IExpr) (ls : List ℤ) → HasNumbers p → q < count → fibre_from n p q ≡ slice_index (table_in table.Ptr p) q → fibre_to n p q ≡ slice_index (table_in table.Ptr p) (q + 1) → fibre_from n p q ≤ fibre_to n p q
-      → Holds at ls (pos q) → value_of x ts ls ≡ pos c → value_of (sought tensor k at x) ts ls ≡ pos (first_from (numbers_of p) (wanted p c) (fibre_from n p q) (fibre_to n p q - fibre_from n p q))
+      → Holds at ls (pos q) → value_of x ts ls ≡ pos c → value_of (sought (place_of tensor k at) x) ts ls ≡ pos (first_from (numbers_of p) (wanted p c) (fibre_from n p q) (fibre_to n p q - fibre_from n p q))
   search_is at q c x ls held lt from to order f g =
       let lies : LiesInFibre n count p (fibre_from n p q) (fibre_to n p q) = record { numbers = held; pos = q; within = lt; low = omega arith; order = order; high = omega arith } in
-      seek_is (fibre_begin tensor k at) (fibre_end tensor k at) x ls (pos (fibre_from n p q)) (pos (fibre_to n p q)) (pos c) (begin_is at q ls f ∙ ap pos (sym from)) (end_is at q ls lt f ∙ ap pos (sym to)) g
+      seek_is (fibre_begin (place_of tensor k at)) (fibre_end (place_of tensor k at)) x ls (pos (fibre_from n p q)) (pos (fibre_to n p q)) (pos c) (begin_is at q ls f ∙ ap pos (sym from)) (end_is at q ls lt f ∙ ap pos (sym to)) g
       ∙ ap pos (sought_in n count p (fibre_from n p q) (fibre_to n p q) c lies)
 
 -- ---- the kinds of levels
@@ -108,7 +108,7 @@ module _ (ts : ℕ → Tensor) (tensor k n count at q c : ℕ) (x : IExpr) (ls :
   index_first : value_of x ts ls ≡ pos c
   index_first = g ls (λ j b. refl)
 
-  dense_goes : LevelIs ts tensor k level.Dense n count part.Dense → IsRead ts (level_steps tensor k level.Dense n x at) at ls (pos (q * n + c))
+  dense_goes : LevelIs ts tensor k level.Dense n count part.Dense → IsRead ts (level_steps (place_of tensor k at) level.Dense n x) at ls (pos (q * n + c))
   dense_goes h =
       let fits : q * n + c ≤ 2 ^ 40 = omega (arith, mul-add-lt q n c count lt lx, h.below) in
       let product = two_of ts ls op.Mul (e.Local at) (e.Num (pos n)) (pos q) (pos n) (local_is ts ls at (pos q) f) (value_num ts ls (pos n)) ∙ mul_small q n (omega arith) in
@@ -116,7 +116,7 @@ module _ (ts : ℕ → Tensor) (tensor k n count at q c : ℕ) (x : IExpr) (ls :
       one_step ts at ls _ (pos (q * n + c)) (omega (arith, long)) (placed ts ls at q _ f ∙ all)
 
   -- a level that has numbers, and a place r of one
-  keys_found : (l : Level) (ptr idx : List ℕ) (r : ℕ) → LevelIs ts tensor k l n count (part.Keys ptr idx) → value_of (found tensor k at x) ts (behind (pos r)) ≡ held_as (if nat_lt r (slice_index ptr (q + 1)) && nat_eq (slice_index idx r) c then Some r else None)
+  keys_found : (l : Level) (ptr idx : List ℕ) (r : ℕ) → LevelIs ts tensor k l n count (part.Keys ptr idx) → value_of (found (place_of tensor k at) x) ts (behind (pos r)) ≡ held_as (if nat_lt r (slice_index ptr (q + 1)) && nat_eq (slice_index idx r) c then Some r else None)
   keys_found l ptr idx r h =
       let p = part.Keys ptr idx in
       let ks = behind (pos r) in
@@ -124,20 +124,20 @@ module _ (ts : ℕ → Tensor) (tensor k n count at q c : ℕ) (x : IExpr) (ls :
       let own = local_is ts ks (at + 1) (pos r) (here (pos r)) in
       let number = cell_is ts tensor k l n count p h table.Idx (e.Local (at + 1)) ks (pos r) own in
       let inner = choice_equal ts ks (e.Cell tensor k table.Idx (e.Local (at + 1))) x (e.Local (at + 1)) none in
-      let outer = choice_of ts ks (e.Local (at + 1)) (fibre_end tensor k at) (e.Pick (e.Two op.Eq (e.Cell tensor k table.Idx (e.Local (at + 1))) x) (e.Local (at + 1)) none) none (pos r) (pos to) own (end_is ts tensor k l n count p h at q ks lt (still (pos r))) in
+      let outer = choice_of ts ks (e.Local (at + 1)) (fibre_end (place_of tensor k at)) (e.Pick (e.Two op.Eq (e.Cell tensor k table.Idx (e.Local (at + 1))) x) (e.Local (at + 1)) none) none (pos r) (pos to) own (end_is ts tensor k l n count p h at q ks lt (still (pos r))) in
       let none_is = value_num ts ks (negsuc 0) in
       outer ∙ rw (inner, number, index_is (pos r), own, none_is, eq_is (slice_index idx r) c) (both_held (nat_lt r to) (nat_eq (slice_index idx r) c) r)
 
-  keys_go : (l : Level) (ptr idx : List ℕ) → LevelIs ts tensor k l n count (part.Keys ptr idx) → IsPtr count ptr → IsRead ts (step_to (at + 1) (sought tensor k at x) ∷ step_to at (where_placed at (found tensor k at x)) ∷ []) at ls (held_as (key_in idx (slice_index ptr q) (slice_index ptr (q + 1)) c))
+  keys_go : (l : Level) (ptr idx : List ℕ) → LevelIs ts tensor k l n count (part.Keys ptr idx) → IsPtr count ptr → IsRead ts (step_to (at + 1) (sought (place_of tensor k at) x) ∷ step_to at (where_placed at (found (place_of tensor k at) x)) ∷ []) at ls (held_as (key_in idx (slice_index ptr q) (slice_index ptr (q + 1)) c))
   keys_go l ptr idx h is =
       let from = slice_index ptr q in
       let to = slice_index ptr (q + 1) in
       let r = first_from idx c from (to - from) in
       let search = search_is ts tensor k l n count (part.Keys ptr idx) h at q c x ls tt lt refl refl (is.rises q lt) f index_first in
       two_steps ts at ls _ _ (held_as (key_in idx from to c)) long
-      (ap (λ (z : ℤ). value_of (where_placed at (found tensor k at x)) ts (behind z)) search ∙ placed ts (behind (pos r)) at q _ (still (pos r)) ∙ keys_found l ptr idx r h)
+      (ap (λ (z : ℤ). value_of (where_placed at (found (place_of tensor k at) x)) ts (behind z)) search ∙ placed ts (behind (pos r)) at q _ (still (pos r)) ∙ keys_found l ptr idx r h)
 
-  runs_go : (ptr stop : List ℕ) → LevelIs ts tensor k level.Runs n count (part.Runs ptr stop) → IsRead ts (level_steps tensor k level.Runs n x at) at ls (held_as (child_in n (part.Runs ptr stop) q c))
+  runs_go : (ptr stop : List ℕ) → LevelIs ts tensor k level.Runs n count (part.Runs ptr stop) → IsRead ts (level_steps (place_of tensor k at) level.Runs n x) at ls (held_as (child_in n (part.Runs ptr stop) q c))
   runs_go ptr stop h =
       let from = slice_index ptr q in
       let to = slice_index ptr (q + 1) in
@@ -148,11 +148,11 @@ module _ (ts : ℕ → Tensor) (tensor k n count at q c : ℕ) (x : IExpr) (ls :
       (ap (λ (z : ℤ). value_of (where_placed at (e.Local (at + 1))) ts (behind z)) search ∙ placed ts (behind (pos r)) at q _ (still (pos r)) ∙ local_is ts (behind (pos r)) (at + 1) (pos r) (here (pos r)))
 
   -- a coordinate before the block
-  band_before : (m : ℕ) → value_of (in_block tensor k at) ts (behind (negsuc m)) ≡ negsuc 0
+  band_before : (m : ℕ) → value_of (in_block (place_of tensor k at)) ts (behind (negsuc m)) ≡ negsuc 0
   band_before m = picked_none ts (behind (negsuc m)) (e.Local (at + 1)) none _ m (local_is ts (behind (negsuc m)) (at + 1) (negsuc m) (here (negsuc m))) ∙ value_num ts (behind (negsuc m)) (negsuc 0)
 
   -- one that is d behind the block's first one
-  band_behind : (ptr start : List ℕ) (d : ℕ) → LevelIs ts tensor k level.Band n count (part.Band ptr start) → value_of (in_block tensor k at) ts (behind (pos d)) ≡ held_as (if nat_lt d (slice_index ptr (q + 1) - slice_index ptr q) then Some (slice_index ptr q + d) else None)
+  band_behind : (ptr start : List ℕ) (d : ℕ) → LevelIs ts tensor k level.Band n count (part.Band ptr start) → value_of (in_block (place_of tensor k at)) ts (behind (pos d)) ≡ held_as (if nat_lt d (slice_index ptr (q + 1) - slice_index ptr q) then Some (slice_index ptr q + d) else None)
   band_behind ptr start d h =
       let p = part.Band ptr start in
       let is : IsPtr count ptr = h.level.0 in
@@ -163,10 +163,10 @@ module _ (ts : ℕ → Tensor) (tensor k n count at q c : ℕ) (x : IExpr) (ls :
       let most : to ≤ 2 ^ 40 = is.small (q + 1) (omega (arith, lt, is.long)) in
       let own = local_is ts ks (at + 1) (pos d) (here (pos d)) in
       let begin = begin_is ts tensor k level.Band n count p h at q ks (still (pos d)) in
-      let size = two_of ts ks op.Sub (fibre_end tensor k at) (fibre_begin tensor k at) (pos to) (pos from) (end_is ts tensor k level.Band n count p h at q ks lt (still (pos d))) begin ∙ sub_small to from most order in
-      let sum = e.Two op.Add (fibre_begin tensor k at) (e.Local (at + 1)) in
-      let sum_is : d < to - from → value_of sum ts ks ≡ pos (from + d) = λ less. two_of ts ks op.Add (fibre_begin tensor k at) (e.Local (at + 1)) (pos from) (pos d) begin own ∙ add_small from d (omega (arith, less, most)) in
-      let inner = choice_of ts ks (e.Local (at + 1)) (e.Two op.Sub (fibre_end tensor k at) (fibre_begin tensor k at)) sum none (pos d) (pos (to - from)) own size in
+      let size = two_of ts ks op.Sub (fibre_end (place_of tensor k at)) (fibre_begin (place_of tensor k at)) (pos to) (pos from) (end_is ts tensor k level.Band n count p h at q ks lt (still (pos d))) begin ∙ sub_small to from most order in
+      let sum = e.Two op.Add (fibre_begin (place_of tensor k at)) (e.Local (at + 1)) in
+      let sum_is : d < to - from → value_of sum ts ks ≡ pos (from + d) = λ less. two_of ts ks op.Add (fibre_begin (place_of tensor k at)) (e.Local (at + 1)) (pos from) (pos d) begin own ∙ add_small from d (omega (arith, less, most)) in
+      let inner = choice_of ts ks (e.Local (at + 1)) (e.Two op.Sub (fibre_end (place_of tensor k at)) (fibre_begin (place_of tensor k at))) sum none (pos d) (pos (to - from)) own size in
       let split : (if nat_lt d (to - from) then value_of sum ts ks else value_of none ts ks) ≡ held_as (if nat_lt d (to - from) then Some (from + d) else None) =
       elim (nat_lt d (to - from)) as (λ b. nat_lt d (to - from) ≡ b → (if b then value_of sum ts ks else value_of none ts ks) ≡ held_as (if b then Some (from + d) else None)) [
         | true ↦ (λ t. sum_is (grind (arith, nat_tests)))
@@ -174,7 +174,7 @@ module _ (ts : ℕ → Tensor) (tensor k n count at q c : ℕ) (x : IExpr) (ls :
       ] refl in
       picked_placed ts ks (e.Local (at + 1)) none _ d own ∙ inner ∙ split
 
-  band_go : (ptr start : List ℕ) → LevelIs ts tensor k level.Band n count (part.Band ptr start) → IsRead ts (level_steps tensor k level.Band n x at) at ls (held_as (child_in n (part.Band ptr start) q c))
+  band_go : (ptr start : List ℕ) → LevelIs ts tensor k level.Band n count (part.Band ptr start) → IsRead ts (level_steps (place_of tensor k at) level.Band n x) at ls (held_as (child_in n (part.Band ptr start) q c))
   band_go ptr start h =
       let p = part.Band ptr start in
       let is : IsStart n count ptr start = h.level.1 in
@@ -184,9 +184,9 @@ module _ (ts : ℕ → Tensor) (tensor k n count at q c : ℕ) (x : IExpr) (ls :
       let u = e.Two op.Sub x (e.Cell tensor k table.Start (e.Local at)) in
       let start_is = cell_is ts tensor k level.Band n count p h table.Start (e.Local at) ls (pos q) (local_is ts ls at (pos q) f) in
       let apart = two_of ts ls op.Sub x (e.Cell tensor k table.Start (e.Local at)) (pos c) (pos first) index_first start_is in
-      let goal : ℤ → Type 0 = λ z. value_of (where_placed at (in_block tensor k at)) ts (behind (value_of u ts ls)) ≡ z in
-      let at_value : (z : ℤ) → value_of u ts ls ≡ z → value_of (where_placed at (in_block tensor k at)) ts (behind (value_of u ts ls)) ≡ value_of (in_block tensor k at) ts (behind z) =
-      λ z same. ap (λ (y : ℤ). value_of (where_placed at (in_block tensor k at)) ts (behind y)) same ∙ placed ts (behind z) at q _ (still z) in
+      let goal : ℤ → Type 0 = λ z. value_of (where_placed at (in_block (place_of tensor k at))) ts (behind (value_of u ts ls)) ≡ z in
+      let at_value : (z : ℤ) → value_of u ts ls ≡ z → value_of (where_placed at (in_block (place_of tensor k at))) ts (behind (value_of u ts ls)) ≡ value_of (in_block (place_of tensor k at)) ts (behind z) =
+      λ z same. ap (λ (y : ℤ). value_of (where_placed at (in_block (place_of tensor k at))) ts (behind y)) same ∙ placed ts (behind z) at q _ (still z) in
       two_steps ts at ls u _ (held_as (child_in n p q c)) long
       (elim (nat_lt c first) as (λ b. nat_lt c first ≡ b → goal (held_as (if b then None else (if nat_lt (c - first) (slice_index ptr (q + 1) - slice_index ptr q) then Some (slice_index ptr q + (c - first)) else None)))) [
         | true ↦ (λ t. let less : c < first = grind (arith, nat_tests) in at_value (negsuc (first - c - 1)) (apart ∙ sub_below c first least less) ∙ band_before (first - c - 1))
@@ -194,7 +194,7 @@ module _ (ts : ℕ → Tensor) (tensor k n count at q c : ℕ) (x : IExpr) (ls :
       ] refl)
 
   -- from a position to that below it, or to none
-  pub position_goes : (l : Level) (p : Part) → LevelIs ts tensor k l n count p → IsRead ts (level_steps tensor k l n x at) at ls (held_as (child_in n p q c))
+  pub position_goes : (l : Level) (p : Part) → LevelIs ts tensor k l n count p → IsRead ts (level_steps (place_of tensor k at) l n x) at ls (held_as (child_in n p q c))
   position_goes level.Dense part.Dense h = dense_goes h
   position_goes level.List (part.Keys ptr idx) h = keys_go level.List ptr idx h h.level.0
   position_goes level.Dict (part.Keys ptr idx) h = keys_go level.Dict ptr idx h h.level.0

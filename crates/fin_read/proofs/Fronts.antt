@@ -9,6 +9,7 @@ use Rattle.fin_read.specs.Steps.{Step, assign_of}
 use Rattle.fin_read.specs.Reads.{levels_steps}
 use Rattle.fin_read.specs.Values.{AreShapes}
 use Rattle.fin_read.specs.Counts.{count_from}
+use Rattle.fin_read.specs.declared.parts.Place.{Place}
 
 -- all behind the first
 pub take_rest : {A : Type 0} (xs : List A) → take (length xs - 1) (drop 1 xs) ≡ drop 1 xs
@@ -35,23 +36,23 @@ count_stops tensor k (l ∷ ls) ns count h = absurd (omega (arith, h))
 left_alone : (into : List Code) (ss : List Step) → ss ≡ [] → into ≡ into ++ map assign_of ss
 left_alone into ss e = sym (append-nil into) ∙ ap (λ (s : List Step). into ++ map assign_of s) (sym e)
 
-module _ (into : List Code) (tensor k : ℕ) (ls : List Level) (ns : List ℕ) (xs : List IExpr) (at : ℕ) where
-  pub no_level : length ls ≡ 0 → into ≡ into ++ map assign_of (levels_steps tensor k ls ns xs at)
-  no_level h = left_alone into (levels_steps tensor k ls ns xs at) (none ls h) where
-    none : (ls' : List Level) → length ls' ≡ 0 → levels_steps tensor k ls' ns xs at ≡ []
+module _ (into : List Code) (p : Place) (ls : List Level) (ns : List ℕ) (xs : List IExpr) where
+  pub no_level : length ls ≡ 0 → into ≡ into ++ map assign_of (levels_steps p ls ns xs)
+  no_level h = left_alone into (levels_steps p ls ns xs) (none ls h) where
+    none : (ls' : List Level) → length ls' ≡ 0 → levels_steps p ls' ns xs ≡ []
     none [] h' = refl
     none (l ∷ ls') h' = absurd (omega (arith, h'))
 
-  pub no_extent : length ns ≡ 0 → into ≡ into ++ map assign_of (levels_steps tensor k ls ns xs at)
-  no_extent h = left_alone into (levels_steps tensor k ls ns xs at) (none ls ns h) where
-    none : (ls' : List Level) (ns' : List ℕ) → length ns' ≡ 0 → levels_steps tensor k ls' ns' xs at ≡ []
+  pub no_extent : length ns ≡ 0 → into ≡ into ++ map assign_of (levels_steps p ls ns xs)
+  no_extent h = left_alone into (levels_steps p ls ns xs) (none ls ns h) where
+    none : (ls' : List Level) (ns' : List ℕ) → length ns' ≡ 0 → levels_steps p ls' ns' xs ≡ []
     none [] ns' h' = refl
     none (l ∷ ls') [] h' = refl
     none (l ∷ ls') (n ∷ ns') h' = absurd (omega (arith, h'))
 
-  pub no_index : length xs ≡ 0 → into ≡ into ++ map assign_of (levels_steps tensor k ls ns xs at)
-  no_index h = left_alone into (levels_steps tensor k ls ns xs at) (none ls ns xs h) where
-    none : (ls' : List Level) (ns' : List ℕ) (xs' : List IExpr) → length xs' ≡ 0 → levels_steps tensor k ls' ns' xs' at ≡ []
+  pub no_index : length xs ≡ 0 → into ≡ into ++ map assign_of (levels_steps p ls ns xs)
+  no_index h = left_alone into (levels_steps p ls ns xs) (none ls ns xs h) where
+    none : (ls' : List Level) (ns' : List ℕ) (xs' : List IExpr) → length xs' ≡ 0 → levels_steps p ls' ns' xs' ≡ []
     none [] ns' xs' h' = refl
     none (l ∷ ls') [] xs' h' = refl
     none (l ∷ ls') (n ∷ ns') [] h' = refl

@@ -21,7 +21,7 @@ use Rattle.fin_ir.specs.Named.{has_local, has_tensor, expression_step, is_named_
 use Rattle.fin_ir.proofs.Nodes.{of_num, of_local, of_neg, of_two, of_pick, of_cell, of_seek, of_val, of_assign}
 use Rattle.fin_stage.proofs.Alive.{left, right, both, holds_there}
 use Rattle.fin_read.specs.Steps.{Step, assign_of}
-use Rattle.fin_read.specs.Reads.{none, in_extent, in_box, fibre_begin, fibre_end, where_placed, sought, found, in_block, step_to, level_steps, levels_steps, last_step, read_steps}
+use Rattle.fin_read.specs.Reads.{none, in_extent, in_box, fibre_begin, fibre_end, where_placed, sought, found, in_block, step_to, level_steps, levels_steps, last_step, read_steps, place_of}
 use Rattle.fin_read.specs.Counts.{below_level, count_from, count_code}
 use Rattle.fin_read.specs.Values.{Heads, Lowered, format_of, shape_of, var_code, index_code, value_code, prelude}
 use Rattle.fin_read.specs.Means.{IsWithin, ValuesAreNamed}
@@ -102,55 +102,55 @@ module _ (layout : Layout) where
     placed : (value : IExpr) → Named value → AreNamed (step_to at (where_placed at value) ∷ [])
     placed value is = step at (where_placed at value) [] here (pick (Two op.Lt (Local at) (Num (pos 0))) none value (two op.Lt (Local at) (Num (pos 0)) (local at here) (num (pos 0))) (num _) is) refl
 
-    begin : (k : ℕ) → Named (fibre_begin tensor k at)
+    begin : (k : ℕ) → Named (fibre_begin (place_of tensor k at))
     begin k = cell tensor k table.Ptr (Local at) has (local at here)
 
-    end : (k : ℕ) → Named (fibre_end tensor k at)
+    end : (k : ℕ) → Named (fibre_end (place_of tensor k at))
     end k = cell tensor k table.Ptr (Two op.Add (Local at) (Num (pos 1))) has (two op.Add (Local at) (Num (pos 1)) (local at here) (num (pos 1)))
 
-    search_then : (k : ℕ) (x : IExpr) (rest : List Step) → Named x → AreNamed rest → AreNamed (step_to (at + 1) (sought tensor k at x) ∷ rest)
-    search_then k x rest is more = step (at + 1) (sought tensor k at x) rest behind (seek tensor k (fibre_begin tensor k at) (fibre_end tensor k at) x has (begin k) (end k) is) more
+    search_then : (k : ℕ) (x : IExpr) (rest : List Step) → Named x → AreNamed rest → AreNamed (step_to (at + 1) (sought (place_of tensor k at) x) ∷ rest)
+    search_then k x rest is more = step (at + 1) (sought (place_of tensor k at) x) rest behind (seek tensor k (fibre_begin (place_of tensor k at)) (fibre_end (place_of tensor k at)) x has (begin k) (end k) is) more
 
-    found_named : (k : ℕ) (x : IExpr) → Named x → Named (found tensor k at x)
+    found_named : (k : ℕ) (x : IExpr) → Named x → Named (found (place_of tensor k at) x)
     found_named k x is =
         let there : IExpr = Local (at + 1) in
         let key : IExpr = Two op.Eq (Cell tensor k table.Idx there) x in
-        pick (Two op.Lt there (fibre_end tensor k at)) (Pick key there none) none (two op.Lt there (fibre_end tensor k at) (local (at + 1) behind) (end k))
+        pick (Two op.Lt there (fibre_end (place_of tensor k at))) (Pick key there none) none (two op.Lt there (fibre_end (place_of tensor k at)) (local (at + 1) behind) (end k))
         (pick key there none (two op.Eq (Cell tensor k table.Idx there) x (cell tensor k table.Idx there has (local (at + 1) behind)) is) (local (at + 1) behind) (num _)) (num _)
 
-    block_named : (k : ℕ) → Named (in_block tensor k at)
+    block_named : (k : ℕ) → Named (in_block (place_of tensor k at))
     block_named k =
         let there : IExpr = Local (at + 1) in
-        let long : IExpr = Two op.Sub (fibre_end tensor k at) (fibre_begin tensor k at) in
-        let value : IExpr = Two op.Add (fibre_begin tensor k at) there in
+        let long : IExpr = Two op.Sub (fibre_end (place_of tensor k at)) (fibre_begin (place_of tensor k at)) in
+        let value : IExpr = Two op.Add (fibre_begin (place_of tensor k at)) there in
         pick (Two op.Lt there (Num (pos 0))) none (Pick (Two op.Lt there long) value none) (two op.Lt there (Num (pos 0)) (local (at + 1) behind) (num (pos 0))) (num _)
-        (pick (Two op.Lt there long) value none (two op.Lt there long (local (at + 1) behind) (two op.Sub (fibre_end tensor k at) (fibre_begin tensor k at) (end k) (begin k))) (two op.Add (fibre_begin tensor k at) there (begin k) (local (at + 1) behind)) (num _))
+        (pick (Two op.Lt there long) value none (two op.Lt there long (local (at + 1) behind) (two op.Sub (fibre_end (place_of tensor k at)) (fibre_begin (place_of tensor k at)) (end k) (begin k))) (two op.Add (fibre_begin (place_of tensor k at)) there (begin k) (local (at + 1) behind)) (num _))
 
-    one_level : (k : ℕ) (l : Level) (n : ℕ) (x : IExpr) → Named x → AreNamed (level_steps tensor k l n x at)
+    one_level : (k : ℕ) (l : Level) (n : ℕ) (x : IExpr) → Named x → AreNamed (level_steps (place_of tensor k at) l n x)
     one_level k level.Dense n x is =
         let value : IExpr = Two op.Add (Two op.Mul (Local at) (Num (pos n))) x in
         placed value (two op.Add (Two op.Mul (Local at) (Num (pos n))) x (two op.Mul (Local at) (Num (pos n)) (local at here) (num (pos n))) is)
-    one_level k level.List n x is = search_then k x (step_to at (where_placed at (found tensor k at x)) ∷ []) is (placed (found tensor k at x) (found_named k x is))
-    one_level k level.Dict n x is = search_then k x (step_to at (where_placed at (found tensor k at x)) ∷ []) is (placed (found tensor k at x) (found_named k x is))
+    one_level k level.List n x is = search_then k x (step_to at (where_placed at (found (place_of tensor k at) x)) ∷ []) is (placed (found (place_of tensor k at) x) (found_named k x is))
+    one_level k level.Dict n x is = search_then k x (step_to at (where_placed at (found (place_of tensor k at) x)) ∷ []) is (placed (found (place_of tensor k at) x) (found_named k x is))
     one_level k level.Runs n x is = search_then k x (step_to at (where_placed at (Local (at + 1))) ∷ []) is (placed (Local (at + 1)) (local (at + 1) behind))
     one_level k level.Band n x is =
-        step (at + 1) (Two op.Sub x (Cell tensor k table.Start (Local at))) (step_to at (where_placed at (in_block tensor k at)) ∷ []) behind
-        (two op.Sub x (Cell tensor k table.Start (Local at)) is (cell tensor k table.Start (Local at) has (local at here))) (placed (in_block tensor k at) (block_named k))
+        step (at + 1) (Two op.Sub x (Cell tensor k table.Start (Local at))) (step_to at (where_placed at (in_block (place_of tensor k at))) ∷ []) behind
+        (two op.Sub x (Cell tensor k table.Start (Local at)) is (cell tensor k table.Start (Local at) has (local at here))) (placed (in_block (place_of tensor k at)) (block_named k))
 
-    all_levels : (k : ℕ) (ls : List Level) (ns : List ℕ) (xs : List IExpr) → AllNamed xs → AreNamed (levels_steps tensor k ls ns xs at)
+    all_levels : (k : ℕ) (ls : List Level) (ns : List ℕ) (xs : List IExpr) → AllNamed xs → AreNamed (levels_steps (place_of tensor k at) ls ns xs)
     all_levels k [] ns xs all = refl
     all_levels k (l ∷ ls) [] xs all = refl
     all_levels k (l ∷ ls) (n ∷ ns) [] all = refl
     all_levels k (l ∷ ls) (n ∷ ns) (x ∷ xs) all =
-        steps_append (level_steps tensor k l n x at) (levels_steps tensor (k + 1) ls ns xs at) (one_level k l n x (left (is_named_in layout x) (list_all (is_named_in layout) xs) all)) (all_levels (k + 1) ls ns xs (right (is_named_in layout x) (list_all (is_named_in layout) xs) all))
+        steps_append (level_steps (place_of tensor k at) l n x) (levels_steps (place_of tensor (k + 1) at) ls ns xs) (one_level k l n x (left (is_named_in layout x) (list_all (is_named_in layout) xs) all)) (all_levels (k + 1) ls ns xs (right (is_named_in layout x) (list_all (is_named_in layout) xs) all))
 
     last : (fill : ℤ) → AreNamed (last_step tensor fill at ∷ [])
     last fill = step at (Pick (Two op.Lt (Local at) (Num (pos 0))) (Num fill) (Val tensor (Local at))) [] here (pick (Two op.Lt (Local at) (Num (pos 0))) (Num fill) (Val tensor (Local at)) (two op.Lt (Local at) (Num (pos 0)) (local at here) (num (pos 0))) (num fill) (val tensor (Local at) has (local at here))) refl
 
     read_named : (levels : List Level) (shape : List ℕ) (fill : ℤ) (xs : List IExpr) → AllNamed xs → AreNamed (read_steps tensor levels shape fill xs at)
     read_named levels shape fill xs all =
-        step at (Pick (in_box shape xs) (Num (pos 0)) none) (levels_steps tensor 0 levels shape xs at ++ last_step tensor fill at ∷ []) here (pick (in_box shape xs) (Num (pos 0)) none (box shape xs all) (num (pos 0)) (num _))
-        (steps_append (levels_steps tensor 0 levels shape xs at) (last_step tensor fill at ∷ []) (all_levels 0 levels shape xs all) (last fill))
+        step at (Pick (in_box shape xs) (Num (pos 0)) none) (levels_steps (place_of tensor 0 at) levels shape xs ++ last_step tensor fill at ∷ []) here (pick (in_box shape xs) (Num (pos 0)) none (box shape xs all) (num (pos 0)) (num _))
+        (steps_append (levels_steps (place_of tensor 0 at) levels shape xs) (last_step tensor fill at ∷ []) (all_levels 0 levels shape xs all) (last fill))
 
   -- ---- the number of values
   module _ (tensor : ℕ) (has : HasTensor tensor) where

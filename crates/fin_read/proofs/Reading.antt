@@ -16,7 +16,7 @@ use Rattle.fin_ir.specs.Machine.{Tensor}
 use Rattle.fin_ir.specs.Value.{extents_in, parts_in, words_in, value_of}
 use Rattle.fin_ir.proofs.Values.{value_num, value_pick, value_val}
 use Rattle.fin_read.specs.Steps.{Step, stepped, Agree}
-use Rattle.fin_read.specs.Reads.{none, in_extent, in_box, level_steps, levels_steps, first_step, last_step, read_steps}
+use Rattle.fin_read.specs.Reads.{none, in_extent, in_box, level_steps, levels_steps, first_step, last_step, read_steps, place_of}
 use Rattle.fin_read.specs.Sees.{Sees}
 use Rattle.fin_read.specs.Means.{AreAt, IsRead, ReadsMean}
 use Rattle.fin_read.proofs.Stepping.{agree_refl, agree_then, one_step, reads_after}
@@ -53,14 +53,14 @@ module _ (ts : ℕ → Tensor) (tensor : ℕ) (fill : ℤ) (at : ℕ) (ls : List
       (picked_placed ts ls (e.Local at) (e.Num fill) (e.Val tensor (e.Local at)) q own ∙ value_val ts ls tensor (e.Local at) ∙ ap (word_at (words_in (ts tensor))) own ∙ word_or (words_in (ts tensor)) q (pos 0) fill lt)
 
 -- where there is no position, there is none at the end
-levels_none : (ts : ℕ → Tensor) (tensor : ℕ) (fill : ℤ) (at k : ℕ) (l : List Level) (ns : List ℕ) (xs : List IExpr) (ls : List ℤ) → at + 1 < length ls → Holds at ls (negsuc 0) → IsRead ts (levels_steps tensor k l ns xs at ++ last_step tensor fill at ∷ []) at ls fill
+levels_none : (ts : ℕ → Tensor) (tensor : ℕ) (fill : ℤ) (at k : ℕ) (l : List Level) (ns : List ℕ) (xs : List IExpr) (ls : List ℤ) → at + 1 < length ls → Holds at ls (negsuc 0) → IsRead ts (levels_steps (place_of tensor k at) l ns xs ++ last_step tensor fill at ∷ []) at ls fill
 levels_none ts tensor fill at k [] ns xs ls long f = end_none ts tensor fill at ls long f
 levels_none ts tensor fill at k (l ∷ rest) [] xs ls long f = end_none ts tensor fill at ls long f
 levels_none ts tensor fill at k (l ∷ rest) (n ∷ ns) [] ls long f = end_none ts tensor fill at ls long f
 levels_none ts tensor fill at k (l ∷ rest) (n ∷ ns) (x ∷ xs) ls long f =
-    let own = level_steps tensor k l n x at in
+    let own = level_steps (place_of tensor k at) l n x in
     let first = none_stays ts tensor k l n x at ls long f in
-    let others = levels_steps tensor (k + 1) rest ns xs at in
+    let others = levels_steps (place_of tensor (k + 1) at) rest ns xs in
     let later = levels_none ts tensor fill at (k + 1) rest ns xs (stepped ts own ls) (omega (arith, long, first.long)) first.value in
     subst (λ (steps : List Step). IsRead ts steps at ls fill) (sym (append_assoc own others (last_step tensor fill at ∷ []))) (reads_after ts at ls own (others ++ last_step tensor fill at ∷ []) (negsuc 0) fill first later)
 
@@ -68,14 +68,14 @@ levels_none ts tensor fill at k (l ∷ rest) (n ∷ ns) (x ∷ xs) ls long f =
 
 module _ (ts : ℕ → Tensor) (tensor : ℕ) (fill : ℤ) (at : ℕ) where
   descent : (k count : ℕ) (l : List Level) (ns : List ℕ) (ps : List Part) (val : List ℤ) (o : Option ℕ) (xs : List IExpr) (cs : List ℕ) (ls : List ℤ) → at + 1 < length ls → LevelsAre ts tensor k l ns ps val count → IfSome o (λ q. q < count) → IsTrue (is_in_box ns cs)
-      → AreAt ts at ls xs (map pos cs) → Holds at ls (held_as o) → IsRead ts (levels_steps tensor k l ns xs at ++ last_step tensor fill at ∷ []) at ls (below o (λ q. value_from ns ps val fill q cs) fill)
+      → AreAt ts at ls xs (map pos cs) → Holds at ls (held_as o) → IsRead ts (levels_steps (place_of tensor k at) l ns xs ++ last_step tensor fill at ∷ []) at ls (below o (λ q. value_from ns ps val fill q cs) fill)
   descent k count l ns ps val None xs cs ls long h lt box fixed f = levels_none ts tensor fill at k l ns xs ls long f
   descent k count [] [] [] val (Some q) xs cs ls long h lt box fixed f =
       let size : length (words_in (ts tensor)) ≡ count = ap length h.words ∙ h.valid.1 in
       subst (λ (ws : List ℤ). IsRead ts (last_step tensor fill at ∷ []) at ls (slice_index_or ws q fill)) h.words (end_placed ts tensor fill at ls long q (omega (arith, lt, size)) f)
   descent k count (l ∷ rest) (n ∷ ns) (p ∷ ps) val (Some q) (x ∷ xs) (c ∷ cs) ls long h lt box fixed f =
-      let own = level_steps tensor k l n x at in
-      let others = levels_steps tensor (k + 1) rest ns xs at ++ last_step tensor fill at ∷ [] in
+      let own = level_steps (place_of tensor k at) l n x in
+      let others = levels_steps (place_of tensor (k + 1) at) rest ns xs ++ last_step tensor fill at ∷ [] in
       let inside = and_parts (nat_lt c n) (is_in_box ns cs) box in
       let less : c < n = ltb-true c n inside.0 in
       let level = level_of ts tensor k l rest n ns p ps val count h in
@@ -83,7 +83,7 @@ module _ (ts : ℕ → Tensor) (tensor : ℕ) (fill : ℤ) (at : ℕ) where
       let fixed_after = at_after ts at ls (stepped ts own ls) xs (map pos cs) first.kept (at_tail ts at ls x xs (pos c) (map pos cs) fixed) in
       let z = below (child_in n p q c) (λ r. value_from ns ps val fill r cs) fill in
       let later = descent (k + 1) (positions n count p) rest ns ps val (child_in n p q c) xs cs (stepped ts own ls) (omega (arith, long, first.long)) (levels_below ts tensor k l rest n ns p ps val count h) (child_within l n count p q c level.level lt less) inside.1 fixed_after first.value in
-      subst (λ (steps : List Step). IsRead ts steps at ls z) (sym (append_assoc own (levels_steps tensor (k + 1) rest ns xs at) (last_step tensor fill at ∷ []))) (reads_after ts at ls own others (held_as (child_in n p q c)) z first later)
+      subst (λ (steps : List Step). IsRead ts steps at ls z) (sym (append_assoc own (levels_steps (place_of tensor (k + 1) at) rest ns xs) (last_step tensor fill at ∷ []))) (reads_after ts at ls own others (held_as (child_in n p q c)) z first later)
   descent k count (l ∷ rest) (n ∷ ns) (p ∷ ps) val (Some q) [] (c ∷ cs) ls long h lt box fixed f = let e = fixed ls (agree_refl at ls) in cc
   descent k count (l ∷ rest) (n ∷ ns) (p ∷ ps) val (Some q) xs [] ls long h lt box fixed f = cc
   descent k count l ns ps val (Some q) xs cs ls long h lt box fixed f = absurd h.valid
@@ -143,7 +143,7 @@ numbers_are (n ∷ ns) (pos c ∷ zs) cs h =
 
 module _ (ts : ℕ → Tensor) (tensor : ℕ) (levels : List Level) (shape : List ℕ) (fill : ℤ) (f : TensorFunction) (xs : List IExpr) (zs : List ℤ) (at : ℕ) (ls : List ℤ) (sees : Sees ts tensor levels shape fill f) (fixed : AreAt ts at ls xs zs) (long : at + 1 < length ls) where
   abbrev later : List Step
-  later = levels_steps tensor 0 levels shape xs at ++ last_step tensor fill at ∷ []
+  later = levels_steps (place_of tensor 0 at) levels shape xs ++ last_step tensor fill at ∷ []
 
   first_read : (o : Option (List ℕ)) → coordinates shape zs ≡ o → IsRead ts (first_step shape xs at ∷ []) at ls (held_as (option_map (λ (cs : List ℕ). 0) o))
   first_read o h = one_step ts at ls _ _ (omega (arith, long)) (first_value ts ls shape xs o (ap (coordinates shape) (fixed ls (agree_refl at ls)) ∙ h))

@@ -8,6 +8,14 @@ use fin_ir::{Code, IExpr, Table};
 use sqlite_items::{Boxed, Items};
 use std::alloc::{AllocError, Global};
 
+/// A level of a tensor, and the local that has the position in it; the one behind is free for a step.
+#[derive(Clone, Copy)]
+pub(crate) struct Place {
+    pub tensor: u8,
+    pub level: u8,
+    pub at: u32,
+}
+
 pub(crate) fn neg(alloc: Global, inner: IExpr) -> Result<IExpr, AllocError>
     ensures { IfOk result (λ e. e ≡ made.Neg inner) }
 {
@@ -50,22 +58,22 @@ pub(crate) fn cell(
     })
 }
 
+/// A search in the level of a place.
 pub(crate) fn seek(
     alloc: Global,
-    tensor: u8,
-    level: u8,
+    place: Place,
     from: IExpr,
     to: IExpr,
     key: IExpr,
 ) -> Result<IExpr, AllocError>
-    ensures { IfOk result (λ e. e ≡ made.Seek tensor level from to key) }
+    ensures { IfOk result (λ e. e ≡ made.Seek place.tensor place.level from to key) }
 {
     let from = Boxed::new(alloc, from)?;
     let to = Boxed::new(alloc, to)?;
     let key = Boxed::new(alloc, key)?;
     Ok(IExpr::Seek {
-        tensor,
-        level,
+        tensor: place.tensor,
+        level: place.level,
         from,
         to,
         key,

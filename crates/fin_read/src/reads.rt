@@ -5,20 +5,12 @@ ghost use Rattle.fin_ir.specs.declared.expression.IExpr.TheVariants as made;
 ghost use Rattle.fin_read.specs.Steps.{Appends, AppendsOne};
 ghost use Rattle.fin_read.specs.Reads as spec;
 
-use crate::parts::{cell, pick, push, seek, two, val};
+use crate::parts::{Place, cell, pick, push, seek, two, val};
 use fin_base::Op;
 use fin_ir::{Code, IExpr, Table};
 use fin_tensor::Level;
 use sqlite_items::Items;
 use std::alloc::{AllocError, Global};
-
-/// A level of a tensor, and the local that has the position in it; the one behind is free for a step.
-#[derive(Clone, Copy)]
-pub(crate) struct Place {
-    pub tensor: u8,
-    pub level: u8,
-    pub at: u32,
-}
 
 // Appends the step to the first position, or to none outside the box.
 pub(crate) fn push_first(
@@ -65,8 +57,7 @@ pub(crate) fn push_levels(
     requires small { AreSmall shape.now }
     requires few { place.level + length levels.now ≤ 8 }
     requires room { place.at + 1 < 2 ^ 32 }
-    ensures { OnOk result (Appends into.old into.new
-        (spec.levels_steps place.tensor place.level levels.now shape.now xs.now place.at)) }
+    ensures { OnOk result (Appends into.old into.new (spec.levels_steps place levels.now shape.now xs.now)) }
 {
     if levels.is_empty() || shape.is_empty() || xs.is_empty() {
         return Ok(());
@@ -90,8 +81,7 @@ fn push_level(
 ) -> Result<(), AllocError>
     requires small { n ≤ 2 ^ 40 }
     requires room { place.at + 1 < 2 ^ 32 }
-    ensures { OnOk result (Appends into.old into.new
-        (spec.level_steps place.tensor place.level kind n x.now place.at)) }
+    ensures { OnOk result (Appends into.old into.new (spec.level_steps place kind n x.now)) }
 {
     match kind {
         Level::Dense => push_dense(alloc, into, place, n, x),
@@ -118,7 +108,7 @@ fn push_dense(
     x: &IExpr,
 ) -> Result<(), AllocError>
     requires small { n ≤ 2 ^ 40 }
-    ensures { OnOk result (AppendsOne into.old into.new (spec.dense_step n place.at x.now)) }
+    ensures { OnOk result (AppendsOne into.old into.new (spec.dense_step place n x.now)) }
 {
     let before = two(alloc, Op::Mul, IExpr::Local(place.at), IExpr::Num(n as i64))?;
     let x = x.copy(alloc)?;
@@ -134,12 +124,12 @@ fn push_sought(
     x: &IExpr,
 ) -> Result<(), AllocError>
     requires room { place.at + 1 < 2 ^ 32 }
-    ensures { OnOk result (AppendsOne into.old into.new (spec.sought_step place.tensor place.level place.at x.now)) }
+    ensures { OnOk result (AppendsOne into.old into.new (spec.sought_step place x.now)) }
 {
     let from = fibre_begin(alloc, place)?;
     let to = fibre_end(alloc, place)?;
     let x = x.copy(alloc)?;
-    let sought = seek(alloc, place.tensor, place.level, from, to, x)?;
+    let sought = seek(alloc, place, from, to, x)?;
     push(into, place.at + 1, sought)
 }
 
@@ -151,8 +141,7 @@ fn push_found(
     x: &IExpr,
 ) -> Result<(), AllocError>
     requires room { place.at + 1 < 2 ^ 32 }
-    ensures { OnOk result (AppendsOne into.old into.new
-        (spec.placed_step place.at (spec.found place.tensor place.level place.at x.now))) }
+    ensures { OnOk result (AppendsOne into.old into.new (spec.placed_step place (spec.found place x.now))) }
 {
     let here = if_here(alloc, place, x)?;
     let found = if_within(alloc, place, here)?;
@@ -161,7 +150,7 @@ fn push_found(
 
 fn if_here(alloc: Global, place: Place, x: &IExpr) -> Result<IExpr, AllocError>
     requires room { place.at + 1 < 2 ^ 32 }
-    ensures { IfOk result (λ e. e ≡ spec.if_here place.tensor place.level place.at x.now) }
+    ensures { IfOk result (λ e. e ≡ spec.if_here place x.now) }
 {
     let sought = IExpr::Local(place.at + 1);
     let stored = cell(alloc, place.tensor, place.level, Table::Idx, sought)?;
@@ -172,7 +161,7 @@ fn if_here(alloc: Global, place: Place, x: &IExpr) -> Result<IExpr, AllocError>
 
 fn if_within(alloc: Global, place: Place, value: IExpr) -> Result<IExpr, AllocError>
     requires room { place.at + 1 < 2 ^ 32 }
-    ensures { IfOk result (λ e. e ≡ spec.if_within place.tensor place.level place.at value) }
+    ensures { IfOk result (λ e. e ≡ spec.if_within place value) }
 {
     let end = fibre_end(alloc, place)?;
     let test = two(alloc, Op::Lt, IExpr::Local(place.at + 1), end)?;
@@ -187,7 +176,7 @@ fn push_behind(
     x: &IExpr,
 ) -> Result<(), AllocError>
     requires room { place.at + 1 < 2 ^ 32 }
-    ensures { OnOk result (AppendsOne into.old into.new (spec.behind_step place.tensor place.level place.at x.now)) }
+    ensures { OnOk result (AppendsOne into.old into.new (spec.behind_step place x.now)) }
 {
     let start = cell(
         alloc,
@@ -204,8 +193,7 @@ fn push_behind(
 // Appends the step to the place in the block.
 fn push_in_block(alloc: Global, into: &mut Items<Code>, place: Place) -> Result<(), AllocError>
     requires room { place.at + 1 < 2 ^ 32 }
-    ensures { OnOk result (AppendsOne into.old into.new
-        (spec.placed_step place.at (spec.in_block place.tensor place.level place.at))) }
+    ensures { OnOk result (AppendsOne into.old into.new (spec.placed_step place (spec.in_block place))) }
 {
     let before = below(alloc, IExpr::Local(place.at + 1), 0)?;
     let there = if_in_block(alloc, place)?;
@@ -215,7 +203,7 @@ fn push_in_block(alloc: Global, into: &mut Items<Code>, place: Place) -> Result<
 
 fn if_in_block(alloc: Global, place: Place) -> Result<IExpr, AllocError>
     requires room { place.at + 1 < 2 ^ 32 }
-    ensures { IfOk result (λ e. e ≡ spec.if_in_block place.tensor place.level place.at) }
+    ensures { IfOk result (λ e. e ≡ spec.if_in_block place) }
 {
     let length = length_of_block(alloc, place)?;
     let test = two(alloc, Op::Lt, IExpr::Local(place.at + 1), length)?;
@@ -225,7 +213,7 @@ fn if_in_block(alloc: Global, place: Place) -> Result<IExpr, AllocError>
 }
 
 fn length_of_block(alloc: Global, place: Place) -> Result<IExpr, AllocError>
-    ensures { IfOk result (λ e. e ≡ spec.block_length place.tensor place.level place.at) }
+    ensures { IfOk result (λ e. e ≡ spec.block_length place) }
 {
     let end = fibre_end(alloc, place)?;
     let begin = fibre_begin(alloc, place)?;
@@ -239,7 +227,7 @@ fn push_placed(
     place: Place,
     value: IExpr,
 ) -> Result<(), AllocError>
-    ensures { OnOk result (AppendsOne into.old into.new (spec.placed_step place.at value)) }
+    ensures { OnOk result (AppendsOne into.old into.new (spec.placed_step place value)) }
 {
     let is_none = below(alloc, IExpr::Local(place.at), 0)?;
     let placed = pick(alloc, is_none, none(), value)?;
@@ -247,7 +235,7 @@ fn push_placed(
 }
 
 fn fibre_begin(alloc: Global, place: Place) -> Result<IExpr, AllocError>
-    ensures { IfOk result (λ e. e ≡ spec.fibre_begin place.tensor place.level place.at) }
+    ensures { IfOk result (λ e. e ≡ spec.fibre_begin place) }
 {
     cell(
         alloc,
@@ -259,7 +247,7 @@ fn fibre_begin(alloc: Global, place: Place) -> Result<IExpr, AllocError>
 }
 
 fn fibre_end(alloc: Global, place: Place) -> Result<IExpr, AllocError>
-    ensures { IfOk result (λ e. e ≡ spec.fibre_end place.tensor place.level place.at) }
+    ensures { IfOk result (λ e. e ≡ spec.fibre_end place) }
 {
     let next = two(alloc, Op::Add, IExpr::Local(place.at), IExpr::Num(1))?;
     cell(alloc, place.tensor, place.level, Table::Ptr, next)

@@ -6,8 +6,8 @@ ghost use Rattle.fin_tensor.specs.Building as building;
 ghost use Rattle.fin_read.specs.Steps.{Appends};
 ghost use Rattle.fin_read.specs.Values as spec;
 
-use crate::parts::{neg, two};
-use crate::reads::{Place, push_first, push_last, push_levels};
+use crate::parts::{Place, neg, two};
+use crate::reads::{push_first, push_last, push_levels};
 use fin_ast::{Expr, Header, Index};
 use fin_base::Op;
 use fin_ir::{Code, IExpr};
