@@ -1,5 +1,5 @@
 -- Lists of levels and extents without their first.
-use Rattle.std.proofs.Common.{◌≡◌, ℕ, zero, suc, ◌-◌, ◌^◌, ◌≤◌, List, [], ◌∷◌, ◌++◌, map, append-nil, length, take, drop, refl, sym, ap, ◌∙◌, subst, arith}
+use Rattle.std.proofs.Common.{◌≡◌, ℕ, suc, ◌-◌, List, [], ◌∷◌, ◌++◌, map, append-nil, length, take, drop, refl, sym, ap, ◌∙◌, subst, arith}
 use Rattle.std.proofs.lemmas.List.{take_all}
 use Rattle.fin_tensor.specs.declared.format.Level.{Level}
 use Rattle.fin_tensor.specs.Levels.{AreSmall}
@@ -7,7 +7,6 @@ use Rattle.fin_ir.specs.declared.expression.IExpr.{IExpr}
 use Rattle.fin_ir.specs.declared.code.Code.{Code}
 use Rattle.fin_read.specs.Steps.{Step, assign_of}
 use Rattle.fin_read.specs.Reads.{levels_steps}
-use Rattle.fin_read.specs.Values.{AreShapes}
 use Rattle.fin_read.specs.Counts.{count_from}
 use Rattle.fin_read.specs.declared.parts.Place.{Place}
 
