@@ -12,3 +12,4 @@ pub mod Lists
 pub mod Rows
 pub mod Same
 pub mod SameArms
+pub mod Weightless

@@ -1,5 +1,6 @@
 -- What looplets and their region weigh: each step of a loop's style leaves less.
-use Rattle.std.specs.Prelude.{ℕ, ◌+◌, List, [], ◌∷◌, Bool, if◌then◌else◌, pos}
+use Rattle.std.specs.Prelude.{◌≡◌, ℕ, ◌+◌, List, [], ◌∷◌, Bool, true, false, if◌then◌else◌, pos}
+use Rattle.std.specs.List.{list_all}
 use Rattle.fin_ir.specs.declared.expression.IExpr.{IExpr}
 use Rattle.fin_ir.specs.declared.expression.IExpr.TheVariants.{Num}
 use Rattle.fin_looplet.specs.declared.looplet.Looplet.{Looplet, Row_of-Phase, end_of-Phase, more_of-Phase, Row_of-Walker, end_of-Walker, more_of-Walker, Row_of-Case, end_of-Case, more_of-Case, end_of-Looplet, more_of-Looplet}
@@ -45,3 +46,20 @@ region lo hi = if is_point lo hi then 0 else 1
 -- a list of looplets, and a region's two ends
 abbrev pub weight_of : List Looplet → IExpr → IExpr → ℕ
 weight_of ls lo hi = region lo hi + weights ls
+
+-- ---- what weighs nothing
+
+abbrev pub is_run : Looplet → Bool
+is_run (Run leaf) = true
+is_run (Spike body tail) = false
+is_run (Lookup coord leaf) = false
+is_run (Sequence' n phases) = false
+is_run (Stepper' p walker) = false
+is_run (Jumper' p walker) = false
+is_run (Switch' n cases) = false
+is_run (Shift' by p child) = false
+
+-- all of the looplets are runs, and the region's end is written as its beginning plus 1
+pub record RunsAtPoint (ls : List Looplet) (lo hi : IExpr) : Type 0 where
+  pub runs : list_all is_run ls ≡ true
+  pub end : hi ≡ plus lo (Num (pos 1))

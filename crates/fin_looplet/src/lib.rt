@@ -11,3 +11,4 @@ mod looplet;
 mod point;
 
 pub use looplet::{Case, Leaf, Looplet, Phase, Walker};
+pub use point::{is_point, is_same, weighs_nothing};
