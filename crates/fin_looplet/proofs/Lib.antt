@@ -13,3 +13,4 @@ pub mod Rows
 pub mod Same
 pub mod SameArms
 pub mod Weightless
+pub mod CutBuilt

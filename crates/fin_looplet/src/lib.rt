@@ -7,7 +7,10 @@
 #![tactic(auto)]
 
 mod copy;
+mod cut;
 mod looplet;
+mod moved;
+mod parts;
 mod point;
 
 pub use looplet::{Case, Leaf, Looplet, Phase, Walker};
