@@ -1,6 +1,13 @@
 pub mod Small
-pub mod Shows
+pub mod Counts
 pub mod Keys
 pub mod Places
+pub mod Shows
 pub mod Phases
 pub mod Lists
+pub mod Runs
+pub mod DenseLevels
+pub mod Bands
+pub mod Walked
+pub mod Guards
+pub mod Means

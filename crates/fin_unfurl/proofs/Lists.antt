@@ -31,14 +31,9 @@ use Rattle.fin_unfurl.specs.declared.fibre.Fibre.{Fibre}
 use Rattle.fin_unfurl.specs.Parts.{next, cell, begin, end, place, leaf}
 use Rattle.fin_unfurl.specs.Walks.{rest, has_places, list_stop, list_end, list_walker, list_walk}
 use Rattle.fin_unfurl.proofs.Small.{wrap_small, lt_yes, lt_no, le_yes, le_no, natural, sub_is}
-use Rattle.fin_unfurl.proofs.Places.{Here, sight_below, two_is, next_value, cell_value, begin_value, end_value, leaf_value, place_at, cursor_value}
+use Rattle.fin_unfurl.proofs.Places.{Here, two_is, next_value, cell_value, begin_value, end_value, leaf_value, place_at, cursor_value}
 use Rattle.fin_unfurl.proofs.Keys.{key_some, key_none, held_yes, held_no}
-use Rattle.fin_unfurl.proofs.Shows.{shown, ShowsAt}
-
--- what is seen where a place is found or not
-abbrev pub sight_or : Fibre → Frozen → Option ℕ → Sight
-sight_or f s None = gap f.fill
-sight_or f s (Some q) = sight_below f.tensor s.val f.below q
+use Rattle.fin_unfurl.proofs.Shows.{shown, ShowsAt, sight_or}
 
 module _ (ts : Store) (ls : List ℤ) (f : Fibre) (e : IExpr) (s : Frozen) (p : ℕ) (h : Here ts ls f e s p) (ptr idx : List ℕ) (kind : part_at s.parts f.level ≡ part.Keys ptr idx) where
   abbrev from : ℕ

@@ -1,6 +1,7 @@
 -- The looplets of walked fibres.
 use Rattle.std.specs.Prelude.{ℕ, ◌+◌, min, nat_eq, List, [], ◌∷◌, length, Option, Some, None, ℤ, pos, Bool, true, false, not, if◌then◌else◌}
 use Rattle.fin_base.specs.declared.terms.Op.TheVariants as op
+use Rattle.fin_tensor.specs.declared.format.Format.{Format}
 use Rattle.fin_tensor.specs.declared.format.Level.{Level}
 use Rattle.fin_tensor.specs.declared.format.Level.TheVariants.{Dense, List as SortedList, Runs, Band, Dict}
 use Rattle.fin_ir.specs.declared.expression.Table.TheVariants as table
@@ -103,8 +104,12 @@ guarded f there walk =
 abbrev pub below_of : List Level → ℕ → Option ℕ
 below_of ls k = if nat_eq (k + 1) (length ls) then None else Some (min (k + 1) 255)
 
+abbrev pub fibre_in : Format → ℕ → ℕ → ℕ → ℕ → Fibre
+fibre_in format tensor level extent cursor =
+    record { tensor = tensor; level = level; below = below_of format.levels level; extent = extent; fill = format.fill; cursor = cursor }
+
 abbrev pub fibre_of : Asked → Fibre
-fibre_of a = record { tensor = a.tensor; level = a.level; below = below_of a.format.levels a.level; extent = a.extent; fill = a.format.fill; cursor = a.cursor }
+fibre_of a = fibre_in a.format a.tensor a.level a.extent a.cursor
 
 abbrev pub unfurled : Asked → Level → Looplet
 unfurled a kind = guarded (fibre_of a) a.there (walk_of kind (fibre_of a) a.place)

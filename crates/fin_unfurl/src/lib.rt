@@ -10,4 +10,4 @@ mod fibre;
 mod parts;
 mod walks;
 
-
+pub use walks::unfurl;

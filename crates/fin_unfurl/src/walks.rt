@@ -1,16 +1,86 @@
 //! The looplet of a walked fibre.
 ghost use Rattle.std.specs.Prelude.{◌≡◌, ◌+◌, ◌<◌, ◌≤◌, ◌^◌, [], ◌∷◌, IfOk, length};
 ghost use Rattle.fin_ir.specs.declared.expression.IExpr.TheVariants as made;
+ghost use Rattle.fin_unfurl.specs.Fibres.{asked, IsApart, ShowsLeaves, ShowsVarying, ShowsBreaks, IsSound, HasFewStops};
 ghost use Rattle.fin_unfurl.specs.Walks as spec;
 
 use crate::fibre::Fibre;
 use crate::parts::{begin, cell, end, leaf, next, pick, seek, two};
-use fin_base::Op;
+use fin_base::{Op, Proto};
 use fin_ir::{IExpr, Table};
 use fin_looplet::{Case, Leaf, Looplet, Phase, Walker};
-use fin_tensor::Level;
+use fin_tensor::{Format, Level};
 use sqlite_items::{Boxed, Items};
 use std::alloc::{AllocError, Global};
+
+/// The looplet of the fibre at the position `pos` of a level that is walked; of the fill where `there` is 0. The level is in
+/// the format and has that extent. The looplet's own locals are `cursor` and the one above it.
+pub fn unfurl(
+    alloc: Global,
+    format: &Format,
+    tensor: u8,
+    level: u8,
+    _proto: Proto,
+    extent: u64,
+    pos: IExpr,
+    there: IExpr,
+    cursor: u32,
+) -> Result<Looplet, AllocError>
+    requires level { level < length format.now.levels }
+    requires walk { _proto ≡ Proto.Walk }
+    requires extent { extent ≤ 2 ^ 40 }
+    requires cursor { cursor + 1 < 2 ^ 32 }
+    requires pos { IsApart cursor pos }
+    requires there { IsApart cursor there }
+    ensures leaves { IfOk result (ShowsLeaves (asked format.now tensor level extent pos there cursor)) }
+    ensures varying { IfOk result (ShowsVarying (asked format.now tensor level extent pos there cursor)) }
+    ensures breaks { IfOk result (ShowsBreaks (asked format.now tensor level extent pos there cursor)) }
+    ensures sound { IfOk result (IsSound (asked format.now tensor level extent pos there cursor)) }
+    ensures stops { IfOk result (HasFewStops (asked format.now tensor level extent pos there cursor)) }
+{
+    let fibre = fibre_in(format, tensor, level, extent, cursor);
+    unfurled(alloc, *format.levels.get(level as usize), fibre, &pos, there)
+}
+
+fn fibre_in(format: &Format, tensor: u8, level: u8, extent: u64, cursor: u32) -> Fibre
+    requires { level < length format.now.levels }
+    ensures { result ≡ spec.fibre_in format.now tensor level extent cursor }
+{
+    Fibre {
+        tensor,
+        level,
+        below: level_below(format, level),
+        extent,
+        fill: format.fill,
+        cursor,
+    }
+}
+
+// The level below, where there is one.
+fn level_below(format: &Format, level: u8) -> Option<u8>
+    requires { level < length format.now.levels }
+    ensures { result ≡ spec.below_of format.now.levels level }
+{
+    if level as usize + 1 == format.levels.len() {
+        return None;
+    }
+    Some(level.saturating_add(1))
+}
+
+fn unfurled(
+    alloc: Global,
+    level: Level,
+    fibre: Fibre,
+    pos: &IExpr,
+    there: IExpr,
+) -> Result<Looplet, AllocError>
+    requires extent { fibre.extent ≤ 2 ^ 40 }
+    requires cursor { fibre.cursor + 1 < 2 ^ 32 }
+    ensures { IfOk result (λ l. l ≡ spec.guarded fibre there (spec.walk_of level fibre pos.now)) }
+{
+    let walk = walk(alloc, level, fibre, pos)?;
+    guarded(alloc, fibre, there, walk)
+}
 
 fn walk(
     alloc: Global,
