@@ -1,0 +1,11 @@
+pub mod Numbered
+pub mod Left
+pub mod Simplified
+pub mod Wording
+pub mod Marked
+pub mod Worthy
+pub mod Right
+pub mod Laws
+pub mod Facts
+pub mod Remaining
+pub mod Rest
