@@ -1,7 +1,11 @@
 //! Equal copies of trees.
 ghost use Rattle.std.specs.Prelude.{◌≡◌, IfOk};
+ghost use Rattle.fin_ast.specs.declared.tree.Expr.TheVariants.{Two};
+ghost use Rattle.fin_ast.specs.Spine.{expr_of};
 
+use crate::spine::Head;
 use crate::tree::{Expr, Index, Stmt};
+use fin_base::Op;
 use fin_tensor::Duplicate;
 use sqlite_items::{Boxed, Items};
 use std::alloc::{AllocError, Global};
@@ -14,41 +18,47 @@ impl Duplicate for Index {
 
 impl Expr {
     /// An equal expression.
+    #[cycle(copies)]
     pub fn copy(&self, alloc: Global) -> Result<Expr, AllocError>
         ensures { IfOk result (λ e. e ≡ self.now) }
     {
-        match self {
-            Expr::Num(value) => Ok(Expr::Num(*value)),
-            Expr::Var { var, line } => Ok(Expr::Var {
-                var: *var,
-                line: *line,
-            }),
-            Expr::Read { tensor, at, line } => {
-                let at = at.copy(alloc)?;
-                Ok(Expr::Read {
-                    tensor: *tensor,
-                    at,
-                    line: *line,
-                })
-            }
-            Expr::Neg(inner) => {
-                let inner = inner.get().copy(alloc)?;
-                let inner = Boxed::new(alloc, inner)?;
-                Ok(Expr::Neg(inner))
-            }
-            Expr::Two { op, left, right } => {
-                let left = left.get().copy(alloc)?;
-                let right = right.get().copy(alloc)?;
-                let left = Boxed::new(alloc, left)?;
-                let right = Boxed::new(alloc, right)?;
-                Ok(Expr::Two {
-                    op: *op,
-                    left,
-                    right,
-                })
-            }
+        let spine = self.spine(alloc)?;
+        let mut sides = spine.sides;
+        let mut whole = copy_head(alloc, spine.head)?;
+        while let Some((op, right)) = sides.pop() {
+            let right = right.copy(alloc)?;
+            whole = two(alloc, op, whole, right)?;
+        }
+        Ok(whole)
+    }
+}
+
+#[cycle(copies)]
+fn copy_head(alloc: Global, head: Head<'_>) -> Result<Expr, AllocError>
+    ensures { IfOk result (λ e. e ≡ expr_of head.entry) }
+{
+    match head {
+        Head::Num(value) => Ok(Expr::Num(value)),
+        Head::Var { var, line } => Ok(Expr::Var { var, line }),
+        Head::Read { tensor, at, line } => {
+            let at = at.copy(alloc)?;
+            Ok(Expr::Read { tensor, at, line })
+        }
+        Head::Neg(inner) => {
+            let inner = inner.copy(alloc)?;
+            let inner = Boxed::new(alloc, inner)?;
+            Ok(Expr::Neg(inner))
         }
     }
+}
+
+/// Two sides under an operator.
+fn two(alloc: Global, op: Op, left: Expr, right: Expr) -> Result<Expr, AllocError>
+    ensures { IfOk result (λ e. e ≡ Two op left right) }
+{
+    let left = Boxed::new(alloc, left)?;
+    let right = Boxed::new(alloc, right)?;
+    Ok(Expr::Two { op, left, right })
 }
 
 impl Stmt {

@@ -1,9 +1,11 @@
 //! The places of a program.
 ghost use Rattle.std.specs.Prelude.{◌≡◌, ◌*◌, IfOk, OnOk, []};
+ghost use Rattle.fin_ast.specs.Spine.{expr_of};
 ghost use Rattle.fin_ast.specs.Places.{uses_of, places_of_expr, places_of, places_of_all};
 
 use crate::place::Place;
 use crate::program::Program;
+use crate::spine::Head;
 use crate::tree::{Expr, Index, Stmt};
 use std::alloc::{AllocError, Global};
 
@@ -13,23 +15,23 @@ impl Program {
         ensures { IfOk result (λ places. places.items ≡ places_of_all self.now.body []) }
     {
         let mut places = Vec::new(alloc);
-        gather_all(self.body.as_slice(), &mut places)?;
+        gather_all(alloc, self.body.as_slice(), &mut places)?;
         Ok(places)
     }
 }
 
 #[cycle(gathered)]
-fn gather_all(body: &[Stmt], into: &mut Vec<Place>) -> Result<(), AllocError>
+fn gather_all(alloc: Global, body: &[Stmt], into: &mut Vec<Place>) -> Result<(), AllocError>
     ensures { OnOk result (into.new.items ≡ places_of_all body.now into.old.items) }
 {
     for statement in body {
-        gather(statement, into)?;
+        gather(alloc, statement, into)?;
     }
     Ok(())
 }
 
 #[cycle(gathered)]
-fn gather(statement: &Stmt, into: &mut Vec<Place>) -> Result<(), AllocError>
+fn gather(alloc: Global, statement: &Stmt, into: &mut Vec<Place>) -> Result<(), AllocError>
     ensures { OnOk result (into.new.items ≡ places_of statement.now into.old.items) }
 {
     match statement {
@@ -37,7 +39,7 @@ fn gather(statement: &Stmt, into: &mut Vec<Place>) -> Result<(), AllocError>
             body,
             line: _,
             last: _,
-        } => gather_all(body.as_slice(), into),
+        } => gather_all(alloc, body.as_slice(), into),
         Stmt::Loop {
             var,
             range,
@@ -51,7 +53,7 @@ fn gather(statement: &Stmt, into: &mut Vec<Place>) -> Result<(), AllocError>
                 range: *range,
                 line: *line,
             })?;
-            gather_all(body.as_slice(), into)
+            gather_all(alloc, body.as_slice(), into)
         }
         Stmt::Cond {
             test,
@@ -59,8 +61,8 @@ fn gather(statement: &Stmt, into: &mut Vec<Place>) -> Result<(), AllocError>
             line: _,
             last: _,
         } => {
-            gather_expr(test, into)?;
-            gather_all(body.as_slice(), into)
+            gather_expr(alloc, test, into)?;
+            gather_all(alloc, body.as_slice(), into)
         }
         Stmt::Bind {
             var: _,
@@ -70,8 +72,8 @@ fn gather(statement: &Stmt, into: &mut Vec<Place>) -> Result<(), AllocError>
             last: _,
         } => {
             into.push(Place::Let)?;
-            gather_expr(value, into)?;
-            gather_all(body.as_slice(), into)
+            gather_expr(alloc, value, into)?;
+            gather_all(alloc, body.as_slice(), into)
         }
         Stmt::Update {
             tensor,
@@ -81,7 +83,7 @@ fn gather(statement: &Stmt, into: &mut Vec<Place>) -> Result<(), AllocError>
             line,
         } => {
             gather_uses(*tensor, at.as_slice(), *line, into)?;
-            gather_expr(value, into)
+            gather_expr(alloc, value, into)
         }
         Stmt::Declare {
             tensor: _,
@@ -93,17 +95,27 @@ fn gather(statement: &Stmt, into: &mut Vec<Place>) -> Result<(), AllocError>
     }
 }
 
-fn gather_expr(expr: &Expr, into: &mut Vec<Place>) -> Result<(), AllocError>
+#[cycle(along)]
+fn gather_expr(alloc: Global, expr: &Expr, into: &mut Vec<Place>) -> Result<(), AllocError>
     ensures { OnOk result (into.new.items ≡ places_of_expr expr.now into.old.items) }
 {
-    match expr {
-        Expr::Num(_) | Expr::Var { var: _, line: _ } => Ok(()),
-        Expr::Read { tensor, at, line } => gather_uses(*tensor, at.as_slice(), *line, into),
-        Expr::Neg(inner) => gather_expr(inner.get(), into),
-        Expr::Two { op: _, left, right } => {
-            gather_expr(left.get(), into)?;
-            gather_expr(right.get(), into)
-        }
+    let spine = expr.spine(alloc)?;
+    let mut sides = spine.sides;
+    gather_head(alloc, spine.head, into)?;
+    while let Some((_op, right)) = sides.pop() {
+        gather_expr(alloc, right, into)?;
+    }
+    Ok(())
+}
+
+#[cycle(along)]
+fn gather_head(alloc: Global, head: Head<'_>, into: &mut Vec<Place>) -> Result<(), AllocError>
+    ensures { OnOk result (into.new.items ≡ places_of_expr (expr_of head.entry) into.old.items) }
+{
+    match head {
+        Head::Num(_) | Head::Var { var: _, line: _ } => Ok(()),
+        Head::Read { tensor, at, line } => gather_uses(tensor, at.as_slice(), line, into),
+        Head::Neg(inner) => gather_expr(alloc, inner, into),
     }
 }
 
