@@ -11,3 +11,5 @@ pub mod Bands
 pub mod Walked
 pub mod Guards
 pub mod Means
+pub mod Comparisons
+pub mod Edges

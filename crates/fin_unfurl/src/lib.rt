@@ -7,7 +7,11 @@
 #![tactic(auto)]
 
 mod fibre;
+mod masks;
 mod parts;
+mod shifts;
 mod walks;
 
+pub use masks::mask;
+pub use shifts::shift;
 pub use walks::unfurl;
