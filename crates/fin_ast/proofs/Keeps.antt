@@ -27,13 +27,14 @@ module _ (w : Setting) (Q : State → Type 0) (steps : StepsKeep w Q) where
   parts_keep : AreAll (evaluating w) none Keeps
   parts_keep = record {
     range = λ var. refl;
+    numbers = λ var n low high. tt;
     still = λ s q. q;
     joined = λ f f' g g' h h' s q. h' (f s) (h s q);
-    value = λ e vars f g h s q. h (value_of e vars (tensors_in w s)) s q;
+    value = λ e vars f g _ _ h s q. h (value_of e vars (tensors_in w s)) tt s q;
     entry = λ var vars s q. q;
     turn = λ var vars n f g h s q. h (ticked s) (steps.ticks s q);
     brace = λ f g h s q. steps.closes s.made (f s) (h s q);
-    leaf = λ l vars _. leaf_keeps l vars;
+    leaf = λ l vars _ _. leaf_keeps l vars;
   }
 
   pub run_all_keeps : (body : List Stmt) (vars : Numbers) → Keeps (run_all w body vars)

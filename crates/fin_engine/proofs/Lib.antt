@@ -1,6 +1,5 @@
 pub mod Cutting
 pub mod Strays
-pub mod OneWhole
 pub mod Verdicts
 pub mod JobsFit
 pub mod Fitted

@@ -13,7 +13,6 @@ use Rattle.fin_ast.specs.Kinds.{is_output}
 use Rattle.fin_ast.specs.declared.header.Kind.{Kind}
 use Rattle.fin_ast.specs.declared.header.Kind.TheVariants.{Input, Output, Local}
 use Rattle.fin_ast.specs.Dense.{function_of, setting_of, unbound}
-use Rattle.fin_dense.specs.Plain as dense
 use Rattle.fin_ir.specs.declared.layout.Plan.{Plan}
 use Rattle.fin_ir.specs.Frozen as plain
 use Rattle.fin_ir.specs.Machine.{Tensor, nothing, building, stored, held, Machine}
@@ -36,12 +35,6 @@ use Rattle.fin_run.specs.Ends.{IsRegular}
 use Rattle.fin_run.specs.States.{machine, tensors_of}
 use Rattle.fin_run.specs.Storages.{storage_in}
 use Rattle.fin_engine.specs.Run.{HoldsOutputs, IsHeld}
-
--- both say which kind is that of outputs
-same_kind : (kind : Kind) → dense.is_output kind ≡ is_output kind
-same_kind Input = refl
-same_kind Output = refl
-same_kind Local = refl
 
 -- ---- a tensor that is a storage
 
@@ -83,9 +76,6 @@ is_canon format f s fill same = record {
 -- ---- the run of a program
 
 module _ (c : Checked) (inputs : List Storage) (accepted : IsAccepted c) (fit : FitProgram c inputs) where
-  pub headers_fit : FitHeaders c.program.headers c.dims
-  headers_fit = c.fits
-
   lowered : IsLowered c inputs
   lowered = accepted_is_lowered c inputs accepted fit
 
@@ -145,4 +135,4 @@ module _ (c : Checked) (inputs : List Storage) (accepted : IsAccepted c) (fit : 
           (found.storage, ap (λ (y : List Storage). storage_in y left.tensors.items tensor) (sym same) ∙ found.found, is_canon h.format f found.storage (fill_is tensor h at output) found.lists)
 
       pub holds : HoldsOutputs c inputs left.tensors.items 0
-      holds tensor h le at output = output_held tensor h at (sym (same_kind h.kind) ∙ output)
+      holds tensor h le at output = output_held tensor h at output

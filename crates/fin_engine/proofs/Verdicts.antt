@@ -25,13 +25,16 @@ use Rattle.fin_engine.specs.Verdict.{Accepts, Breaks, BreaksLater, BreaksWhole, 
 use Rattle.fin_ast.specs.declared.program.Program.{Program}
 use Rattle.fin_ast.specs.declared.checked.Checked.{Checked}
 use Rattle.fin_ast.specs.declared.checked.Dims.{Dims}
+use Rattle.fin_ast.specs.declared.checked.LoopWays.{LoopWays}
+use Rattle.fin_ast.specs.OneProof.{FitHeaders-prop}
+use Rattle.fin_ast.specs.Shaped.{FitHeaders}
 use Rattle.fin_ast.specs.Infer.{IsInferred}
 use Rattle.fin_ast.specs.Life.{life_in}
 use Rattle.fin_ast.specs.Order.{order_in}
 use Rattle.fin_ast.specs.Ties.{Shapes}
 use Rattle.fin_dims.proofs.OneOutcome.{one_inferred, one_breach as one_extent_breach, inferred_or_broken}
 use Rattle.fin_parse.proofs.OneProgram.{one_program}
-use Rattle.fin_engine.proofs.OneWhole.{same_program}
+use Rattle.fin_parse.proofs.OneProgram.{same_program}
 use Rattle.fin_parse.specs.Program.{StandsFor}
 
 -- a job has one program and one list of tensors
@@ -188,8 +191,15 @@ accepted_or_not job rule line (j, (p, g, a, is)) (Breaks.no_job q h r b breaks) 
 
 -- ---- an accepted text is that of one job
 
+abbrev made : (program : Program) (dims : Dims) (loops : List LoopWays) → FitHeaders program.headers dims → Checked
+made program dims loops fits = record { program = program; dims = dims; ways = record { loops = loops }; fits = fits }
+
 same_checked : (a b : Checked) → a.program ≡ b.program → a.dims ≡ b.dims → a.ways.loops ≡ b.ways.loops → a ≡ b
-same_checked a b p d w = λ i. record { program = p i; dims = d i; ways = record { loops = w i } }
+same_checked a b p d w =
+    let base : (q : FitHeaders a.program.headers a.dims) → a ≡ made a.program a.dims a.ways.loops q = λ q. ap (made a.program a.dims a.ways.loops) (FitHeaders-prop a.program.headers a.dims a.fits q) in
+    let program = subst (λ x. (q : FitHeaders x.headers a.dims) → a ≡ made x a.dims a.ways.loops q) p base in
+    let dims = subst (λ x. (q : FitHeaders b.program.headers x) → a ≡ made b.program x a.ways.loops q) d program in
+    subst (λ x. (q : FitHeaders b.program.headers b.dims) → a ≡ made b.program b.dims x q) w dims b.fits
 
 same_job : (j k : Job) → j.checked ≡ k.checked → j.inputs ≡ k.inputs → j ≡ k
 same_job j k c i = λ x. record { checked = c x; inputs = i x }

@@ -89,7 +89,7 @@ made_program headers body last k = record { headers = headers; body = body; last
 abbrev kept_of : (a : Program) → Kept a.headers a.body
 kept_of a = record { few = a.few; distinct = a.distinct; numbered = a.numbered; named = a.named; shallow = a.shallow; worded = a.worded }
 
-same_program : (a b : Program) → a.headers ≡ b.headers → a.body ≡ b.body → a.last ≡ b.last → a ≡ b
+pub same_program : (a b : Program) → a.headers ≡ b.headers → a.body ≡ b.body → a.last ≡ b.last → a ≡ b
 same_program a b h k l =
     let base : (q : Kept a.headers a.body) → a ≡ made_program a.headers a.body a.last q = λ q. ap (made_program a.headers a.body a.last) (kept_prop a.headers a.body (kept_of a) q) in
     let headers = subst (λ headers. (q : Kept headers a.body) → a ≡ made_program headers a.body a.last q) h base in

@@ -126,13 +126,14 @@ module _ (w : Setting) where
   parts_fit : AreAll (staging w) none KeepsFit
   parts_fit = record {
     range = λ var. refl;
+    numbers = λ var n low high. tt;
     still = λ r h. h;
     joined = λ f f' g g' k k' r h. k' (f r) (k r h);
-    value = λ e vars f g k r h. value_fits e vars f k (worked 1 r) h;
+    value = λ e vars f g _ _ k r h. value_fits e vars f (λ v. k v tt) (worked 1 r) h;
     entry = λ var vars r h. h;
     turn = λ var vars n f g k r h. k (worked 1 r) h;
     brace = λ f g k r h. kept_fits r.stages (f r).stages (k r h);
-    leaf = λ l vars _. leaf_fits l vars;
+    leaf = λ l vars _ _. leaf_fits l vars;
   }
 
   pub stage_fits : (x : Stmt) (vars : Numbers) → KeepsFit (stage_of w x vars)

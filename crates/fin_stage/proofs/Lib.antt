@@ -19,3 +19,4 @@ pub mod OrderedWhole
 pub mod Ranges
 pub mod Soundness
 pub mod Trailing
+pub mod Wordy

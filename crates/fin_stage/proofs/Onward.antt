@@ -129,13 +129,14 @@ module _ (w : Setting) where
   pub parts_go_on : AreAll (staging w) none Goes
   parts_go_on = record {
     range = λ var. refl;
+    numbers = λ var n low high. tt;
     still = onward_still;
     joined = λ f f' g g' h h' r. onward_then r (f r) (f' (f r)) (h r) (h' (f r));
-    value = λ e vars f g h r. onward_then r (worked 1 r) _ (onward_worked 1 r) (value_goes_on e vars f h (worked 1 r));
+    value = λ e vars f g _ _ h r. onward_then r (worked 1 r) _ (onward_worked 1 r) (value_goes_on e vars f (λ v. h v tt) (worked 1 r));
     entry = λ var vars. onward_worked 1;
     turn = λ var vars n f g h r. onward_then r (worked 1 r) (f (worked 1 r)) (onward_worked 1 r) (h (worked 1 r));
     brace = λ f g h r. onward_then r (f r) _ (h r) (onward_closed r.stages (f r));
-    leaf = λ l vars _. leaf_goes_on l vars;
+    leaf = λ l vars _ _. leaf_goes_on l vars;
   }
 
   pub all_go_on : (body : List Stmt) → GoesOn (stage_all w body)

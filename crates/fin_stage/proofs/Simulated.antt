@@ -16,7 +16,8 @@ use Rattle.fin_ast.specs.Dense as dense
 use Rattle.fin_ast.specs.Dense.{Setting, State, Made, made_at, range_of, shape_at, fill_of, tensors_in, run_of, run_all, setting_of, unbound, evaluated}
 use Rattle.fin_stage.specs.Stages.{Stage, Absent, Built, Frozen, stage_at, function_in, work_of_declaration}
 use Rattle.fin_stage.specs.Staged.{Run, worked, with_stage, unalive, unordered, with_value, asked_for_small, are_small, is_made, freeze_at, thaw_at, put_at, update_at, update, format_at, leaf, staging, stage_all, before_all, staged}
-use Rattle.fin_ast.proofs.Alike.{AreAlike, none, no_leaf_in, act_all_alike}
+use Rattle.fin_ast.proofs.Alike.{AreAlike, none, no_leaf_in, Any, act_all_alike}
+use Rattle.fin_ast.proofs.Leaves.{neither}
 use Rattle.fin_stage.proofs.Onward.{onward_then, onward_still, onward_worked, onward_closed, small_goes_on, update_goes_on, leaf_goes_on}
 use Rattle.fin_stage.proofs.Fits.{same_fill}
 use Rattle.fin_stage.proofs.Simulating.{functions, function_at, set_functions, same_function, Good, good_before, Simulates, small_same, value_simulates, close_simulates}
@@ -84,16 +85,17 @@ module _ (w : Setting) where
         same = λ x u h g. update_if tensor (is_made w tensor) (map (place vars) at) by v (small x) u (h ∙ ap functions (sym (small_same w (are_small vars at) x))) g;
       })
 
-  parts_simulate : AreAlike (staging w) (dense.evaluating w) none (Simulates w)
+  parts_simulate : AreAlike (staging w) (dense.evaluating w) neither none Any (Simulates w)
   parts_simulate = record {
     range = λ var. refl;
+    numbers = λ var n low high. tt;
     still = record { on = onward_still; same = λ r t h g. h };
     joined = λ f f' d d' a b. record {
       on = λ r. onward_then r (f r) (f' (f r)) (a.on r) (b.on (f r));
       same = λ r t h g. b.same (f r) (d t) (a.same r t h (good_before (f r) (f' (f r)) (b.on (f r)) g)) g;
     };
-    value = λ e vars f d a.
-        let v : Simulates w (with_value w e vars f) (λ t. d (value_of e vars (tensors_in w t)) t) = value_simulates w e vars f d a in
+    value = λ e vars f d _ _ a.
+        let v : Simulates w (with_value w e vars f) (λ t. d (value_of e vars (tensors_in w t)) t) = value_simulates w e vars f d (λ v. a v tt) in
         record { on = λ r. onward_then r (worked 1 r) _ (onward_worked 1 r) (v.on (worked 1 r)); same = λ r. v.same (worked 1 r) };
     entry = λ var vars. record { on = onward_worked 1; same = λ r t h g. h };
     turn = λ var vars n f d a. record { on = λ r. onward_then r (worked 1 r) (f (worked 1 r)) (onward_worked 1 r) (a.on (worked 1 r)); same = λ r t. a.same (worked 1 r) (dense.ticked t) };
@@ -101,11 +103,11 @@ module _ (w : Setting) where
       on = λ r. onward_then r (f r) _ (a.on r) (onward_closed r.stages (f r));
       same = λ r t h g. close_simulates w r (f r) t (d t) h (a.same r t h (record { alive = g.alive; small = g.small; ordered = g.ordered }));
     };
-    leaf = λ l vars _. leaf_same l vars;
+    leaf = λ l vars _ _. leaf_same l vars;
   }
 
   pub statements_simulate : (body : List Stmt) (vars : Numbers) → Simulates w (stage_all w body vars) (dense.run_all w body vars)
-  statements_simulate body vars = act_all_alike (staging w) (dense.evaluating w) none (Simulates w) parts_simulate body (no_leaf_in body) vars
+  statements_simulate body vars = act_all_alike (staging w) (dense.evaluating w) neither none Any (Simulates w) parts_simulate body (no_leaf_in body) vars (λ x. tt)
 
 abbrev none_of : Header → Option TensorFunction
 none_of h = None

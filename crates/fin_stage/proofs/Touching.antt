@@ -14,7 +14,7 @@ use Rattle.fin_ast.specs.Dense.{Setting, range_of, shape_at}
 use Rattle.fin_stage.specs.Stages.{Stage, Absent, Built, Frozen, stage_at, kept}
 use Rattle.fin_stage.specs.Staged.{Run, worked, with_stage, unalive, unsmall, unordered, asked_to_read, asked_for_small, has_small_indices, can_read, tensors_of, are_small, is_made, freeze_at, thaw_at, put_at, update_at, format_at, leaf, staging, stage_of}
 use Rattle.fin_ast.proofs.Leaves.{has_leaf, have_leaf}
-use Rattle.fin_ast.proofs.Alike.{idle, AreAll, act_alike}
+use Rattle.fin_ast.proofs.Alike.{AreAll, act_has}
 use Rattle.fin_stage.proofs.Fits.{set_cases, kept_cases}
 
 abbrev pub is_update_of : ℕ → Leaf → Bool
@@ -122,16 +122,17 @@ module _ (w : Setting) (t : ℕ) where
   parts_keep : AreAll (staging w) (is_update_of t) Keeps
   parts_keep = record {
     range = λ var. refl;
+    numbers = λ var n low high. tt;
     still = λ r. inl refl;
     joined = λ f f' g g' h h' r. last_then t r.stages (f r).stages (f' (f r)).stages (h r) (h' (f r));
-    value = λ e vars f g h r.
+    value = λ e vars f g _ _ h r.
         let x : Run = asked_for_small (has_small_indices e vars) (asked_to_read (can_read e (tensors_of w r)) (worked 1 r)) in
-        last_then t r.stages x.stages _ (ready_keeps e vars (worked 1 r)) (h (value_of e vars (tensors_of w r)) x);
+        last_then t r.stages x.stages _ (ready_keeps e vars (worked 1 r)) (h (value_of e vars (tensors_of w r)) tt x);
     entry = λ var vars r. inl refl;
     turn = λ var vars n f g h r. h (worked 1 r);
     brace = λ f g h r. last_then t r.stages (f r).stages _ (h r) (last_closed t r.stages (f r).stages);
-    leaf = leaf_keeps;
+    leaf = λ l vars e _. leaf_keeps l vars e;
   }
 
   pub untouched : (x : Stmt) → touches t x ≡ false → (vars : Numbers) → Keeps (stage_of w x vars)
-  untouched = act_alike (staging w) (idle (range_of w)) (is_update_of t) (λ f g. Keeps f) parts_keep
+  untouched = act_has (staging w) Keeps (is_update_of t) parts_keep

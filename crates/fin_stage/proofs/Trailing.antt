@@ -315,14 +315,15 @@ module _ (w : Setting) where
   parts_go_on : AreAll (staging w) none GoesOn
   parts_go_on = record {
     range = λ var. refl;
+    numbers = λ var n low high. tt;
     still = record { on = onward_still; mono = λ r r' tr g. tr };
     joined = λ f f' g g' a b. record {
       on = λ r. onward_then r (f r) (f' (f r)) (a.on r) (b.on (f r));
       mono = λ r r' tr g. b.mono (f r) (f r') (a.mono r r' tr (regular_before (f r) (f' (f r)) (b.on (f r)) g)) g;
     };
-    value = λ e vars f g a. record {
-      on = λ r. onward_then r (worked 1 r) _ (onward_worked 1 r) (value_goes_on w e vars f (λ v. (a v).on) (worked 1 r));
-      mono = λ r r' tr g. value_monotone w e vars f (λ v. (a v).on) (λ v. (a v).mono) (worked 1 r) (worked 1 r') (worked_trails 1 r r' tr) g;
+    value = λ e vars f g _ _ a. record {
+      on = λ r. onward_then r (worked 1 r) _ (onward_worked 1 r) (value_goes_on w e vars f (λ v. (a v tt).on) (worked 1 r));
+      mono = λ r r' tr g. value_monotone w e vars f (λ v. (a v tt).on) (λ v. (a v tt).mono) (worked 1 r) (worked 1 r') (worked_trails 1 r r' tr) g;
     };
     entry = λ var vars. record { on = onward_worked 1; mono = λ r r' tr g. worked_trails 1 r r' tr };
     turn = λ var vars n f g a. record {
@@ -333,7 +334,7 @@ module _ (w : Setting) where
       on = λ r. onward_then r (f r) _ (a.on r) (onward_closed r.stages (f r));
       mono = λ r r' tr g. closed_trails r r' (f r) (f r') tr (a.mono r r' tr g);
     };
-    leaf = λ l vars _. record { on = leaf_goes_on w l vars; mono = leaf_monotone l vars };
+    leaf = λ l vars _ _. record { on = leaf_goes_on w l vars; mono = leaf_monotone l vars };
   }
 
   pub stage_monotone : (x : Stmt) (vars : Numbers) → Monotone (stage_of w x vars)

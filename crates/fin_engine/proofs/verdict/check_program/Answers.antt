@@ -6,6 +6,7 @@ use Rattle.fin_ast.specs.declared.program.Program.{Program}
 use Rattle.fin_ast.specs.Ties.{Shapes}
 use Rattle.fin_engine.specs.Inputs.{Tensors, unmatched, shapes_of}
 use Rattle.fin_engine.specs.Verdict.{BreaksLater, ChecksProgram, ChecksWhole, IsCompletion}
+use Rattle.fin_engine.proofs.JobsFit.{whole_fits}
 use Rattle.fin_engine.proofs.verdict.check_program.Goals as goal
 
 -- a program that breaks a rule after insertion
@@ -23,3 +24,9 @@ returns-in_err-dims c =
     let completed : IsCompletion c.args.program whole = record { headers = c.in_ok-whole.ensures.headers; body = c.in_ok-whole.ensures.body; last = c.in_ok-whole.ensures.last } in
     let shapes = c.as_slice-4.ensures.value ∙ c.in_ok-shapes.ensures.value ∙ ap (λ hs. shapes_of hs given) c.as_slice-3.ensures in
     record { verdict = subst (λ r. ChecksProgram c.args.program given r) (sym is) (later c.args.program whole given c.as_slice-4.result.now fail matched completed shapes c.in_err-dims.ensures.verdict) }
+
+pub invariant_of-result : goal.invariant_of-result
+invariant_of-result c =
+    let given = c.args.given.now.entries in
+    let shapes = c.as_slice-4.ensures.value ∙ c.in_ok-shapes.ensures.value ∙ ap (λ hs. shapes_of hs given) c.as_slice-3.ensures in
+    record { fits = whole_fits c.args.program.headers given c.as_slice-4.result.now c.in_ok-whole.whole c.in_ok-dims.dims shapes c.in_ok-dims.ensures.verdict.extents }
