@@ -14,3 +14,4 @@ pub mod Same
 pub mod SameArms
 pub mod Weightless
 pub mod CutBuilt
+pub mod MovedBuilt

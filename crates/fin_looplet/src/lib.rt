@@ -14,4 +14,6 @@ mod parts;
 mod point;
 
 pub use looplet::{Case, Leaf, Looplet, Phase, Walker};
+pub use moved::put;
+pub use parts::{before, minus, plus};
 pub use point::{is_point, is_same, weighs_nothing};
