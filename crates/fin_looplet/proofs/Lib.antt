@@ -15,3 +15,4 @@ pub mod SameArms
 pub mod Weightless
 pub mod CutBuilt
 pub mod MovedBuilt
+pub mod Kept

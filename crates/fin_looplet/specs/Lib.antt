@@ -8,3 +8,4 @@ pub mod Moved
 pub mod Weight
 pub mod Like
 pub mod Lists
+pub mod Laws

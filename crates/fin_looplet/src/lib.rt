@@ -8,11 +8,13 @@
 
 mod copy;
 mod cut;
+mod laws;
 mod looplet;
 mod moved;
 mod parts;
 mod point;
 
+pub use laws::{cut_keeps, frame_holds, moved_keeps, reach_is_near};
 pub use looplet::{Case, Leaf, Looplet, Phase, Walker};
 pub use moved::put;
 pub use parts::{before, minus, plus};
