@@ -85,15 +85,18 @@ module _ (ts : Store) (ls : List ℤ) (f : Fibre) (e : IExpr) (s : Frozen) (p : 
   first_value z d =
       value_pick ts ls (has_places f e) (start_of f e) (Num (pos 0))
       ∙ ⊎_elim
-      (λ (o : (from < to) × (z ≡ at)). ap (λ (x : ℤ). if is_off x then value ts ls (Num (pos 0)) else value ts ls (start_of f e)) (some_value ∙ ap truth (lt_yes from to o.0)) ∙ start_is ls h.here ∙ ap pos (sym o.1))
-      (λ (o : (to ≤ from) × (z ≡ 0)). ap (λ (x : ℤ). if is_off x then value ts ls (Num (pos 0)) else value ts ls (start_of f e)) (some_value ∙ ap truth (lt_no from to o.0)) ∙ value_num ts ls (pos 0) ∙ ap pos (sym o.1))
+      (λ (o : (from < to) × (z ≡ at)). ap (λ (x : ℤ). if is_off x then value ts ls (Num (pos 0)) else value ts ls (start_of f e)) (some_value ∙ ap truth (lt_yes from to o.0))
+        ∙ start_is ls h.here ∙ ap pos (sym o.1))
+      (λ (o : (to ≤ from) × (z ≡ 0)). ap (λ (x : ℤ). if is_off x then value ts ls (Num (pos 0)) else value ts ls (start_of f e)) (some_value ∙ ap truth (lt_no from to o.0))
+        ∙ value_num ts ls (pos 0) ∙ ap pos (sym o.1))
       d
 
   last_value : (z : ℕ) → stood z → value ts ls (block_end f e) ≡ pos (z + (to - from))
   last_value z d =
       let low : z ≤ 2 ^ 40 = ⊎_elim (λ (o : (from < to) × (z ≡ at)). omega (arith, o.1, at_small)) (λ (o : (to ≤ from) × (z ≡ 0)). omega (arith, o.1)) d in
       let long : value ts ls (Two op.Sub (end f e) (begin f e)) ≡ pos (to - from) =
-      two_is ts ls op.Sub (end f e) (begin f e) (pos to) (pos from) (end_is ls h.here) (begin_is ls h.here) ∙ ap (int_wrap w64) (sub_is to from order) ∙ wrap_small (to - from) (omega (arith, to_small)) in
+      two_is ts ls op.Sub (end f e) (begin f e) (pos to) (pos from) (end_is ls h.here) (begin_is ls h.here) ∙ ap (int_wrap w64) (sub_is to from order)
+        ∙ wrap_small (to - from) (omega (arith, to_small)) in
       two_is ts ls op.Add (block_begin f e) (Two op.Sub (end f e) (begin f e)) (pos z) (pos (to - from)) (first_value z d) long
       ∙ wrap_small (z + (to - from)) (omega (arith, to_small, low))
 
@@ -148,10 +151,12 @@ module _ (ts : Store) (ls : List ℤ) (f : Fibre) (e : IExpr) (s : Frozen) (p : 
       let some : nat_lt from to ≡ false = grind (arith, nat_tests) in
       let short : to - from ≡ 0 = omega arith in
       let over : nat_lt (m - at) (to - from) ≡ false = grind (arith, nat_tests) in
-      let none : block_in from to at m ≡ None = elim (nat_lt m at) as (λ b. (if b then None else (if nat_lt (m - at) (to - from) then Some (from + (m - at)) else None)) ≡ None) [ | true ↦ refl | false ↦ rw over refl ] in
+      let none : block_in from to at m ≡ None = elim (nat_lt m at) as
+        (λ b. (if b then None else (if nat_lt (m - at) (to - from) then Some (from + (m - at)) else None)) ≡ None) [ | true ↦ refl | false ↦ rw over refl ] in
       let is : view ts ls (band_walk f e) end (pos m) ≡ behind m end =
       band_view m end 0 (inr (le, refl))
-      ∙ ap (λ b. if b then ended (int_le (pos 0) (pos (m + 1))) false before else (if int_lt (pos m) (pos (0 + (to - from))) then ended (int_le (pos (0 + (to - from))) (pos (m + 1))) false (within m) else behind m end)) (lt_no m 0 (omega arith))
+      ∙ ap (λ b. if b then ended (int_le (pos 0) (pos (m + 1))) false before else
+        (if int_lt (pos m) (pos (0 + (to - from))) then ended (int_le (pos (0 + (to - from))) (pos (m + 1))) false (within m) else behind m end)) (lt_no m 0 (omega arith))
       ∙ ap (λ b. if b then ended (int_le (pos (0 + (to - from))) (pos (m + 1))) false (within m) else behind m end) (lt_no m (0 + (to - from)) (omega (arith, short))) in
       subst (Shows m) (sym is) (out_shows m end lt none (λ _. ap (λ b. b && (nat_eq (m + 1) at || nat_eq (m + 1) (at + (to - from)))) some))
 
@@ -173,18 +178,21 @@ module _ (ts : Store) (ls : List ℤ) (f : Fibre) (e : IExpr) (s : Frozen) (p : 
         let high : nat_eq (m + 1) stop ≡ false = (let ne : m + 1 < stop = omega arith in grind (arith, nat_tests)) in
         let is : view ts ls (band_walk f e) end (pos m) ≡ ended (int_le (pos at) (pos (m + 1))) false before =
         band_view m end at (inl (some, refl))
-        ∙ ap (λ b. if b then ended (int_le (pos at) (pos (m + 1))) false before else (if int_lt (pos m) (pos stop) then ended (int_le (pos stop) (pos (m + 1))) false (within m) else behind m end)) (lt_yes m at l) in
+        ∙ ap (λ b. if b then ended (int_le (pos at) (pos (m + 1))) false before else
+          (if int_lt (pos m) (pos stop) then ended (int_le (pos stop) (pos (m + 1))) false (within m) else behind m end)) (lt_yes m at l) in
         subst (Shows m) (sym is)
         (⊎_elim
         (λ (far : m + 1 < at).
         let low : nat_eq (m + 1) at ≡ false = grind (arith, nat_tests) in
         let off : (nat_eq (m + 1) at || nat_eq (m + 1) stop) ≡ false = rw (low, high) refl in
-        subst (λ b. Shows m (ended b false before)) (sym (le_no at (m + 1) far)) (record { sight = ap (sight_or f s) (sym none); varies = sym (ap is_some none); ends = λ _. sym (ends_is false off); stop = λ x. x }))
+        subst (λ b. Shows m (ended b false before)) (sym (le_no at (m + 1) far))
+          (record { sight = ap (sight_or f s) (sym none); varies = sym (ap is_some none); ends = λ _. sym (ends_is false off); stop = λ x. x }))
         (λ (near : at ≤ m + 1).
         let eq : m + 1 ≡ at = omega arith in
         let low : nat_eq (m + 1) at ≡ true = grind (arith, nat_tests) in
         let on : (nat_eq (m + 1) at || nat_eq (m + 1) stop) ≡ true = rw low refl in
-        subst (λ b. Shows m (ended b false before)) (sym (le_yes at (m + 1) near)) (record { sight = ap (sight_or f s) (sym none); varies = sym (ap is_some none); ends = λ _. sym (ends_is true on); stop = λ x. x }))
+        subst (λ b. Shows m (ended b false before)) (sym (le_yes at (m + 1) near))
+          (record { sight = ap (sight_or f s) (sym none); varies = sym (ap is_some none); ends = λ _. sym (ends_is true on); stop = λ x. x }))
         (cases_lt (m + 1) at))
 
     within_shows : at ≤ m → m < stop → Shows m (view ts ls (band_walk f e) end (pos m))
@@ -197,7 +205,8 @@ module _ (ts : Store) (ls : List ℤ) (f : Fibre) (e : IExpr) (s : Frozen) (p : 
         let seen = leaf_value ts f e s p h.is (slice_set ls (f.cursor + 1) (pos m)) (block_place f e) (from + (m - at)) (place_is m l lt) ∙ ap (sight_or f s) (sym found) in
         let is : view ts ls (band_walk f e) end (pos m) ≡ ended (int_le (pos stop) (pos (m + 1))) false (within m) =
         band_view m end at (inl (some, refl))
-        ∙ ap (λ x. if x then ended (int_le (pos at) (pos (m + 1))) false before else (if int_lt (pos m) (pos stop) then ended (int_le (pos stop) (pos (m + 1))) false (within m) else behind m end)) (lt_no m at l)
+        ∙ ap (λ x. if x then ended (int_le (pos at) (pos (m + 1))) false before else
+          (if int_lt (pos m) (pos stop) then ended (int_le (pos stop) (pos (m + 1))) false (within m) else behind m end)) (lt_no m at l)
         ∙ ap (λ x. if x then ended (int_le (pos stop) (pos (m + 1))) false (within m) else behind m end) (lt_yes m stop u) in
         subst (Shows m) (sym is)
         (⊎_elim
@@ -223,7 +232,8 @@ module _ (ts : Store) (ls : List ℤ) (f : Fibre) (e : IExpr) (s : Frozen) (p : 
         let off : (nat_eq (m + 1) at || nat_eq (m + 1) stop) ≡ false = rw (low, high) refl in
         let is : view ts ls (band_walk f e) end (pos m) ≡ behind m end =
         band_view m end at (inl (some, refl))
-        ∙ ap (λ x. if x then ended (int_le (pos at) (pos (m + 1))) false before else (if int_lt (pos m) (pos stop) then ended (int_le (pos stop) (pos (m + 1))) false (within m) else behind m end)) (lt_no m at (omega arith))
+        ∙ ap (λ x. if x then ended (int_le (pos at) (pos (m + 1))) false before else
+          (if int_lt (pos m) (pos stop) then ended (int_le (pos stop) (pos (m + 1))) false (within m) else behind m end)) (lt_no m at (omega arith))
         ∙ ap (λ x. if x then ended (int_le (pos stop) (pos (m + 1))) false (within m) else behind m end) (lt_no m stop u) in
         subst (Shows m) (sym is) (out_shows m end lt none (λ _. ends_is false off))
 
@@ -232,7 +242,8 @@ module _ (ts : Store) (ls : List ℤ) (f : Fibre) (e : IExpr) (s : Frozen) (p : 
       ⊎_elim
       (λ (some : from < to).
       ⊎_elim (λ (l : m < at). before_shows m end lt some l)
-      (λ (l : at ≤ m). ⊎_elim (λ (u : m < at + (to - from)). within_shows m end lt some l u) (λ (u : at + (to - from) ≤ m). behind_shows m end lt some u) (cases_lt m (at + (to - from)))) (cases_lt m at))
+      (λ (l : at ≤ m). ⊎_elim (λ (u : m < at + (to - from)). within_shows m end lt some l u) (λ (u : at + (to - from) ≤ m). behind_shows m end lt some u) (cases_lt m (at + (to - from))))
+        (cases_lt m at))
       (λ (le : to ≤ from). empty_shows m end lt le)
       (cases_lt from to)
 

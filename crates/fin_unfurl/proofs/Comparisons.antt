@@ -76,7 +76,8 @@ module _ (o : Op) (b : IExpr) (compares : IsTrue (is_comparison o)) (ts : Store)
   c = int_max (int_min z (pos (2 ^ 40))) (negsuc 0)
 
   bounded_is : value ts ls (bounded b) ≡ c
-  bounded_is = two_is ts ls op.Max (Two op.Min b (Num (pos (2 ^ 40)))) (Num (negsuc 0)) (int_min z (pos (2 ^ 40))) (negsuc 0) (two_is ts ls op.Min b (Num (pos (2 ^ 40))) z (pos (2 ^ 40)) refl (value_num ts ls (pos (2 ^ 40)))) (value_num ts ls (negsuc 0))
+  bounded_is = two_is ts ls op.Max (Two op.Min b (Num (pos (2 ^ 40)))) (Num (negsuc 0)) (int_min z (pos (2 ^ 40))) (negsuc 0)
+    (two_is ts ls op.Min b (Num (pos (2 ^ 40))) z (pos (2 ^ 40)) refl (value_num ts ls (pos (2 ^ 40)))) (value_num ts ls (negsuc 0))
 
   next_is : value ts ls (next (bounded b)) ≡ c +ℤ pos 1
   next_is =
@@ -202,7 +203,8 @@ module _ (o : Op) (b : IExpr) (compares : IsTrue (is_comparison o)) where
       let served : Places = λ j. j <ℤ pos hi in
       let y = value ts ls (bounded b) in
       let y' = value ts ls (next (bounded b)) in
-      let last : int_lt i (value ts ls (Num (pos (2 ^ 40)))) ≡ true = ap (int_lt i) (value_num ts ls (pos (2 ^ 40))) ∙ sym (true_is_lt i (pos (2 ^ 40)) (omega (arith, le, lt_out i (pos hi) high))) in
+      let last : int_lt i (value ts ls (Num (pos (2 ^ 40)))) ≡ true = ap (int_lt i) (value_num ts ls (pos (2 ^ 40)))
+        ∙ sym (true_is_lt i (pos (2 ^ 40)) (omega (arith, le, lt_out i (pos hi) high))) in
       sound_phase anywhere ts ls first (second ∷ third ∷ []) served i
       (elim (int_lt i y) as (λ x. ((x ≡ true) × Unit {0}) ⊎ ((x ≡ false) × SoundWithin anywhere ts ls (Sequence (second ∷ third ∷ [])) served i)) [
         | true ↦ inl (refl, tt)

@@ -62,7 +62,8 @@ module _ (child : Looplet) (by : IExpr) where
       sound_shift anywhere ts ls by child (λ j. j <ℤ (hi +ℤ b)) i (tt,
         sound_less anywhere anywhere (λ j r. r) ts ls child (λ j. j <ℤ hi) (λ j. (j +ℤ b) <ℤ (hi +ℤ b)) (i -ℤ b)
         (λ j q. below_in j hi (omega (arith, lt_out (j +ℤ b) (hi +ℤ b) q, sum_is_lem j b, sum_is_lem hi b)))
-        (h (i -ℤ b) (at_most_in lo (i -ℤ b) (omega (arith, sub_of i b, sum_is_lem lo b, le_out (lo +ℤ b) i low))) (below_in (i -ℤ b) hi (omega (arith, sub_of i b, sum_is_lem hi b, lt_out i (hi +ℤ b) high)))))
+        (h (i -ℤ b) (at_most_in lo (i -ℤ b) (omega (arith, sub_of i b, sum_is_lem lo b, le_out (lo +ℤ b) i low)))
+          (below_in (i -ℤ b) hi (omega (arith, sub_of i b, sum_is_lem hi b, lt_out i (hi +ℤ b) high)))))
 
 -- ---- with an edge
 
@@ -76,7 +77,8 @@ module _ (child : Looplet) (by : IExpr) (n : ℕ) (fill : ℤ) (small : n ≤ 2 
   stop_is : value ts ls (Two op.Add (near by) (Num (pos n))) ≡ c +ℤ pos n
   stop_is =
       two_is ts ls op.Add (near by) (Num (pos n)) c (pos n)
-      (two_is ts ls op.Max (Two op.Min by (Num (pos (2 ^ 40)))) (Num (negsuc (2 ^ 41))) (int_min z (pos (2 ^ 40))) (negsuc (2 ^ 41)) (two_is ts ls op.Min by (Num (pos (2 ^ 40))) z (pos (2 ^ 40)) refl (value_num ts ls (pos (2 ^ 40)))) (value_num ts ls (negsuc (2 ^ 41))))
+      (two_is ts ls op.Max (Two op.Min by (Num (pos (2 ^ 40)))) (Num (negsuc (2 ^ 41))) (int_min z (pos (2 ^ 40))) (negsuc (2 ^ 41))
+        (two_is ts ls op.Min by (Num (pos (2 ^ 40))) z (pos (2 ^ 40)) refl (value_num ts ls (pos (2 ^ 40)))) (value_num ts ls (negsuc (2 ^ 41))))
       (value_num ts ls (pos n))
       ∙ int_wrap_fits w64 (c +ℤ pos n) (fits_in w64 (c +ℤ pos n) (omega (arith, sum_is_lem c (pos n), int_max_is (int_min z (pos (2 ^ 40))) (negsuc (2 ^ 41)), int_min_is z (pos (2 ^ 40)), small)))
 
@@ -97,7 +99,8 @@ module _ (child : Looplet) (by : IExpr) (n : ℕ) (fill : ℤ) (small : n ≤ 2 
       ∙ ap (λ (v : View). if int_lt (pos i) z then ended (int_le z (pos (i + 1))) false filled else v)
       (view_phase ts ls second (third ∷ []) end (pos i)
       ∙ ap (λ (x : ℤ). if int_lt (pos i) x then ended (int_le x (pos (i + 1))) false (view ts ls (Shift by child) x (pos i)) else view ts ls (Sequence (third ∷ [])) end (pos i)) stop_is
-      ∙ ap (λ (v : View). if int_lt (pos i) (c +ℤ pos n) then ended (int_le (c +ℤ pos n) (pos (i + 1))) false v else view ts ls (Sequence (third ∷ [])) end (pos i)) (view_shift ts ls by child (c +ℤ pos n) (pos i))
+      ∙ ap (λ (v : View). if int_lt (pos i) (c +ℤ pos n) then ended (int_le (c +ℤ pos n) (pos (i + 1))) false v else view ts ls (Sequence (third ∷ [])) end (pos i))
+        (view_shift ts ls by child (c +ℤ pos n) (pos i))
       ∙ ap (λ (v : View). if int_lt (pos i) (c +ℤ pos n) then ended (int_le (c +ℤ pos n) (pos (i + 1))) false (view ts ls child ((c +ℤ pos n) -ℤ z) (pos i -ℤ z)) else v)
       (view_phase ts ls third [] end (pos i)
       ∙ ap (λ (x : ℤ). if int_lt (pos i) x then ended (int_le x (pos (i + 1))) false filled else view ts ls (Sequence []) end (pos i)) (value_num ts ls (pos (2 ^ 40)))
@@ -132,25 +135,31 @@ module _ (child : Looplet) (by : IExpr) (n : ℕ) (fill : ℤ) (small : n ≤ 2 
       let whole : (z +ℤ pos n) -ℤ z ≡ pos n = same_in ((z +ℤ pos n) -ℤ z) (pos n) (omega (arith, sub_of (z +ℤ pos n) z, sum_is_lem z (pos n))) in
       edged_view i end lt
       ∙ ap (λ x. chosen i x (int_lt (pos i) (c +ℤ pos n))) (sym (false_is_lt (pos i) z (omega (arith, h))))
-      ∙ ap (λ (y : ℤ). if int_lt (pos i) (y +ℤ pos n) then ended (int_le (y +ℤ pos n) (pos (i + 1))) false (view ts ls child ((y +ℤ pos n) -ℤ z) (pos i -ℤ z)) else ended (int_le (pos (2 ^ 40)) (pos (i + 1))) false filled) same
-      ∙ ap (λ x. if x then ended (int_le (z +ℤ pos n) (pos (i + 1))) false (view ts ls child ((z +ℤ pos n) -ℤ z) (pos i -ℤ z)) else ended (int_le (pos (2 ^ 40)) (pos (i + 1))) false filled) (sym (true_is_lt (pos i) (z +ℤ pos n) (omega (arith, h, sum_is_lem z (pos n)))))
+      ∙ ap (λ (y : ℤ). if int_lt (pos i) (y +ℤ pos n) then ended (int_le (y +ℤ pos n) (pos (i + 1))) false (view ts ls child ((y +ℤ pos n) -ℤ z) (pos i -ℤ z)) else ended
+        (int_le (pos (2 ^ 40)) (pos (i + 1))) false filled) same
+      ∙ ap (λ x. if x then ended (int_le (z +ℤ pos n) (pos (i + 1))) false (view ts ls child ((z +ℤ pos n) -ℤ z) (pos i -ℤ z)) else ended (int_le (pos (2 ^ 40)) (pos (i + 1))) false filled)
+        (sym (true_is_lt (pos i) (z +ℤ pos n) (omega (arith, h, sum_is_lem z (pos n)))))
       ∙ ap (λ (y : ℤ). ended (int_le (z +ℤ pos n) (pos (i + 1))) false (view ts ls child y (pos i -ℤ z))) whole
 
   view_behind : (i : ℕ) (end : ℤ) → i < 2 ^ 40 → Behind i → view ts ls (edged child by n fill) end (pos i) ≡ ended (int_le (pos (2 ^ 40)) (pos (i + 1))) false filled
   view_behind i end lt h =
       edged_view i end lt
       ∙ ap (λ x. chosen i x (int_lt (pos i) (c +ℤ pos n))) (sym (false_is_lt (pos i) z (omega (arith, h))))
-      ∙ ap (chosen i false) (sym (false_is_lt (pos i) (c +ℤ pos n) (omega (arith, h, small, sum_is_lem c (pos n), int_max_is (int_min z (pos (2 ^ 40))) (negsuc (2 ^ 41)), int_min_is z (pos (2 ^ 40))))))
+      ∙ ap (chosen i false)
+        (sym (false_is_lt (pos i) (c +ℤ pos n) (omega (arith, h, small, sum_is_lem c (pos n), int_max_is (int_min z (pos (2 ^ 40))) (negsuc (2 ^ 41)), int_min_is z (pos (2 ^ 40))))))
 
-  pub edges_leaves : (end : ℤ) (i : ℕ) → i < 2 ^ 40 → (view ts ls (edged child by n fill) end (pos i)).seen ≡ (if is_inside z n (pos i) then (view ts ls child (pos n) (pos i -ℤ z)).seen else record { sight = gap fill; varies = false })
+  pub edges_leaves : (end : ℤ) (i : ℕ) → i < 2 ^ 40
+    → (view ts ls (edged child by n fill) end (pos i)).seen ≡ (if is_inside z n (pos i) then (view ts ls child (pos n) (pos i -ℤ z)).seen else record { sight = gap fill; varies = false })
   edges_leaves end i lt =
       let inner = (view ts ls child (pos n) (pos i -ℤ z)).seen in
       let choose : Bool → Bool → Seen = λ x y. if x && y then inner else record { sight = gap fill; varies = false } in
       ⊎_elim
       (λ (h : Before i). ap (λ (v : View). v.seen) (view_before i end lt h) ∙ ap (λ x. choose x (int_lt (pos i) (z +ℤ pos n))) (false_is_le z (pos i) (omega (arith, h))))
       (λ r. ⊎_elim
-      (λ (h : Inside i). ap (λ (v : View). v.seen) (view_inside i end lt h) ∙ ap (choose true) (true_is_lt (pos i) (z +ℤ pos n) (omega (arith, h, sum_is_lem z (pos n)))) ∙ ap (λ x. choose x (int_lt (pos i) (z +ℤ pos n))) (true_is_le z (pos i) (omega (arith, h))))
-      (λ (h : Behind i). ap (λ (v : View). v.seen) (view_behind i end lt h) ∙ ap (choose true) (false_is_lt (pos i) (z +ℤ pos n) (omega (arith, h, sum_is_lem z (pos n)))) ∙ ap (λ x. choose x (int_lt (pos i) (z +ℤ pos n))) (true_is_le z (pos i) (omega (arith, h))))
+      (λ (h : Inside i). ap (λ (v : View). v.seen) (view_inside i end lt h) ∙ ap (choose true) (true_is_lt (pos i) (z +ℤ pos n) (omega (arith, h, sum_is_lem z (pos n))))
+        ∙ ap (λ x. choose x (int_lt (pos i) (z +ℤ pos n))) (true_is_le z (pos i) (omega (arith, h))))
+      (λ (h : Behind i). ap (λ (v : View). v.seen) (view_behind i end lt h) ∙ ap (choose true) (false_is_lt (pos i) (z +ℤ pos n) (omega (arith, h, sum_is_lem z (pos n))))
+        ∙ ap (λ x. choose x (int_lt (pos i) (z +ℤ pos n))) (true_is_le z (pos i) (omega (arith, h))))
       r) (where_is i)
 
   -- ---- at the coordinate before a number
@@ -201,7 +210,8 @@ module _ (child : Looplet) (by : IExpr) (n : ℕ) (fill : ℤ) (small : n ≤ 2 
       (λ (e : pos (m + 1) ≡ z). (omega (arith, ap up e, ap down e), omega (arith, ap up e, ap down e)))
       (λ q. ⊎_elim
       (λ (e : pos (m + 1) ≡ z +ℤ pos n). (omega (arith, ap up e, ap down e, sum), omega (arith, ap up e, ap down e, sum)))
-      (λ (e : IsBreak ts ls child (pos 0) (pos n) (pos (m + 1) -ℤ z)). (omega (arith, lt_out (pos 0) (pos (m + 1) -ℤ z) e.after, sub), omega (arith, lt_out (pos (m + 1) -ℤ z) (pos n) e.before, sub)))
+      (λ (e : IsBreak ts ls child (pos 0) (pos n) (pos (m + 1) -ℤ z)).
+        (omega (arith, lt_out (pos 0) (pos (m + 1) -ℤ z) e.after, sub), omega (arith, lt_out (pos (m + 1) -ℤ z) (pos n) e.before, sub)))
       q) r in
       ⊎_elim
       (λ (h : Before m). ap (λ (v : View). v.ends) (view_before m end (omega arith) h) ∙ ap (λ x. x || false) (sym (true_is_le z (pos (m + 1)) (omega (arith, within)))))
@@ -262,7 +272,8 @@ module _ (child : Looplet) (by : IExpr) (n : ℕ) (fill : ℤ) (small : n ≤ 2 
       (λ (h : Inside m). (
         below_in z (pos (m + 1)) (omega (arith, h)),
         at_most_in (pos (m + 1)) (z +ℤ pos n) (omega (arith, h, sum)),
-        ap (λ (w : ℤ). (view ts ls child (pos n) w).stop) (minus_one m) ∙ sym (no_walker (int_le (z +ℤ pos n) (pos (m + 1))) (view ts ls child (pos n) (pos m -ℤ z)).stop) ∙ ap (λ (v : View). v.stop) (sym (view_inside m end lt h)) ∙ e))
+        ap (λ (w : ℤ). (view ts ls child (pos n) w).stop) (minus_one m) ∙ sym (no_walker (int_le (z +ℤ pos n) (pos (m + 1))) (view ts ls child (pos n) (pos m -ℤ z)).stop)
+          ∙ ap (λ (v : View). v.stop) (sym (view_inside m end lt h)) ∙ e))
       (λ (h : Behind m). absurd (subst T (sym (sym (no_walker (int_le (pos (2 ^ 40)) (pos (m + 1))) false) ∙ ap (λ (v : View). v.stop) (sym (view_behind m end lt h)) ∙ e)) tt))
       r) (where_is m)
 
@@ -304,7 +315,8 @@ module _ (child : Looplet) (by : IExpr) (n : ℕ) (fill : ℤ) (small : n ≤ 2 
       let third = outside fill (Num (pos (2 ^ 40))) in
       let sum = sum_is_lem z (pos n) in
       let stop = value ts ls (Two op.Add (near by) (Num (pos n))) in
-      let last : SoundWithin anywhere ts ls (Sequence (third ∷ [])) served (pos m) = sound_phase anywhere ts ls third [] served (pos m) (inl (ap (int_lt (pos m)) (value_num ts ls (pos (2 ^ 40))) ∙ lt_yes m (2 ^ 40) lt, tt)) in
+      let last : SoundWithin anywhere ts ls (Sequence (third ∷ [])) served (pos m) = sound_phase anywhere ts ls third [] served (pos m)
+        (inl (ap (int_lt (pos m)) (value_num ts ls (pos (2 ^ 40))) ∙ lt_yes m (2 ^ 40) lt, tt)) in
       ⊎_elim
       (λ (w : Before m). sound_phase anywhere ts ls first (second ∷ third ∷ []) served (pos m) (inl (sym (true_is_lt (pos m) z (omega (arith, w))), tt)))
       (λ r. ⊎_elim
@@ -318,7 +330,8 @@ module _ (child : Looplet) (by : IExpr) (n : ℕ) (fill : ℤ) (small : n ≤ 2 
             (h (pos m -ℤ z) (at_most_in (pos 0) (pos m -ℤ z) (omega (arith, w, sub_of (pos m) z))) (below_in (pos m -ℤ z) (pos n) (omega (arith, w, sub_of (pos m) z))))))))))
       (λ (w : Behind m).
       sound_phase anywhere ts ls first (second ∷ third ∷ []) served (pos m) (inr (sym (false_is_lt (pos m) z (omega (arith, w))),
-        sound_phase anywhere ts ls second (third ∷ []) served (pos m) (inr (ap (int_lt (pos m)) stop_is ∙ sym (false_is_lt (pos m) (c +ℤ pos n) (omega (arith, w, small, sum_is_lem c (pos n), int_max_is (int_min z (pos (2 ^ 40))) (negsuc (2 ^ 41)), int_min_is z (pos (2 ^ 40))))), last)))))
+        sound_phase anywhere ts ls second (third ∷ []) served (pos m) (inr (ap (int_lt (pos m)) stop_is
+          ∙ sym (false_is_lt (pos m) (c +ℤ pos n) (omega (arith, w, small, sum_is_lem c (pos n), int_max_is (int_min z (pos (2 ^ 40))) (negsuc (2 ^ 41)), int_min_is z (pos (2 ^ 40))))), last)))))
       r) (where_is m)
 
   pub edges_sound : SoundIn ts ls child (pos 0) (pos n) → (lo hi : ℕ) → hi ≤ 2 ^ 40 → SoundIn ts ls (edged child by n fill) (pos lo) (pos hi)

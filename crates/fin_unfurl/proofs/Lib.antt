@@ -10,6 +10,7 @@ pub mod DenseLevels
 pub mod Bands
 pub mod Walked
 pub mod Guards
+pub mod Dependence
 pub mod Means
 pub mod Comparisons
 pub mod Edges

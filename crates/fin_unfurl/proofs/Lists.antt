@@ -117,12 +117,14 @@ module _ (ts : Store) (ls : List ℤ) (f : Fibre) (e : IExpr) (s : Frozen) (p : 
 
   spike_at : (m k : ℕ) → k ≡ m → spike m (pos (k + 1)) ≡ shown (tail m) false true true
   spike_at m k is =
-      ap (λ b. ended b true (if int_lt (pos (m + 1)) (pos (k + 1)) then ended (int_le (pos (k + 1)) (pos (m + 2))) false (plain false (gap f.fill)) else plain false (tail m))) (le_yes (k + 1) (m + 1) (omega arith))
+      ap (λ b. ended b true (if int_lt (pos (m + 1)) (pos (k + 1)) then ended (int_le (pos (k + 1)) (pos (m + 2))) false (plain false (gap f.fill)) else plain false (tail m)))
+        (le_yes (k + 1) (m + 1) (omega arith))
       ∙ ap (λ b. ended true true (if b then ended (int_le (pos (k + 1)) (pos (m + 2))) false (plain false (gap f.fill)) else plain false (tail m))) (lt_no (m + 1) (k + 1) (omega arith))
 
   spike_before : (m k : ℕ) (near : Bool) → m < k → int_le (pos (k + 1)) (pos (m + 2)) ≡ near → spike m (pos (k + 1)) ≡ shown (gap f.fill) false (near || false) ((near && false) || false)
   spike_before m k near lt is =
-      ap (λ b. ended b true (if int_lt (pos (m + 1)) (pos (k + 1)) then ended (int_le (pos (k + 1)) (pos (m + 2))) false (plain false (gap f.fill)) else plain false (tail m))) (le_no (k + 1) (m + 1) (omega arith))
+      ap (λ b. ended b true (if int_lt (pos (m + 1)) (pos (k + 1)) then ended (int_le (pos (k + 1)) (pos (m + 2))) false (plain false (gap f.fill)) else plain false (tail m)))
+        (le_no (k + 1) (m + 1) (omega arith))
       ∙ ap (λ b. ended false true (if b then ended (int_le (pos (k + 1)) (pos (m + 2))) false (plain false (gap f.fill)) else plain false (tail m))) (lt_yes (m + 1) (k + 1) (omega arith))
       ∙ ap (λ b. ended false true (ended b false (plain false (gap f.fill)))) is
 
@@ -140,8 +142,10 @@ module _ (ts : Store) (ls : List ℤ) (f : Fibre) (e : IExpr) (s : Frozen) (p : 
       let out = key_none idx from to m (key m) refl (inr (omega arith)) in
       let no = held_no idx from to m out in
       elim near as (λ b. stored (m + 1) ≡ b → shown (gap f.fill) false (b || false) ((b && false) || false) ≡ view_of m) [
-        | true ↦ (λ x. ap (λ o. shown (sight_or f s o) false true false) (sym out) ∙ ap (λ b. shown (sight_or f s (key_in idx from to m)) false (b || true) b) (sym no) ∙ ap (λ b. shown (sight_or f s (key_in idx from to m)) false (stored m || b) (stored m)) (sym x))
-        | false ↦ (λ x. ap (λ o. shown (sight_or f s o) false false false) (sym out) ∙ ap (λ b. shown (sight_or f s (key_in idx from to m)) false (b || false) b) (sym no) ∙ ap (λ b. shown (sight_or f s (key_in idx from to m)) false (stored m || b) (stored m)) (sym x))
+        | true ↦ (λ x. ap (λ o. shown (sight_or f s o) false true false) (sym out) ∙ ap (λ b. shown (sight_or f s (key_in idx from to m)) false (b || true) b) (sym no)
+          ∙ ap (λ b. shown (sight_or f s (key_in idx from to m)) false (stored m || b) (stored m)) (sym x))
+        | false ↦ (λ x. ap (λ o. shown (sight_or f s o) false false false) (sym out) ∙ ap (λ b. shown (sight_or f s (key_in idx from to m)) false (b || false) b) (sym no)
+          ∙ ap (λ b. shown (sight_or f s (key_in idx from to m)) false (stored m || b) (stored m)) (sym x))
       ] is
 
   walker_view : (m : ℕ) (end : ℤ) → Under m → view ts ls (Stepper (list_walker f e)) end (pos m) ≡ view_of m
@@ -230,13 +234,15 @@ module _ (ts : Store) (ls : List ℤ) (f : Fibre) (e : IExpr) (s : Frozen) (p : 
       let first_phase : view ts ls (list_walk f e) end (pos m) ≡ ended (int_le (pos (l + 1)) (pos (m + 1))) false (view_of m) =
       view_phase ts ls spikes (rest f ∷ []) end (pos m)
       ∙ ap (λ (z : ℤ). if int_lt (pos m) z then ended (int_le z (pos (m + 1))) false (view ts ls (Stepper (list_walker f e)) z (pos m)) else view ts ls (Sequence (rest f ∷ [])) end (pos m)) is
-      ∙ ap (λ b. if b then ended (int_le (pos (l + 1)) (pos (m + 1))) false (view ts ls (Stepper (list_walker f e)) (pos (l + 1)) (pos m)) else view ts ls (Sequence (rest f ∷ [])) end (pos m)) (lt_yes m (l + 1) (omega (arith, u.1)))
+      ∙ ap (λ b. if b then ended (int_le (pos (l + 1)) (pos (m + 1))) false (view ts ls (Stepper (list_walker f e)) (pos (l + 1)) (pos m)) else view ts ls (Sequence (rest f ∷ [])) end (pos m))
+        (lt_yes m (l + 1) (omega (arith, u.1)))
       ∙ ap (λ (v : View). ended (int_le (pos (l + 1)) (pos (m + 1))) false v) (walker_view m (pos (l + 1)) u) in
       subst (Shows m) (sym first_phase)
       (⊎_elim
       (λ (lt : m < l). subst (λ b. Shows m (ended b false (view_of m))) (sym (le_no (l + 1) (m + 1) (omega arith))) (record { sight = refl; varies = refl; ends = λ _. refl; stop = λ x. x }))
       (λ (ge : l ≤ m).
-      subst (λ b. Shows m (ended b false (view_of m))) (sym (le_yes (l + 1) (m + 1) (omega arith))) (record { sight = refl; varies = refl; ends = λ _. ap (λ b. b || stored (m + 1)) (sym (last_held m u ge)); stop = λ x. x }))
+      subst (λ b. Shows m (ended b false (view_of m))) (sym (le_yes (l + 1) (m + 1) (omega arith)))
+        (record { sight = refl; varies = refl; ends = λ _. ap (λ b. b || stored (m + 1)) (sym (last_held m u ge)); stop = λ x. x }))
       (cases_lt m l))
 
   past_shows : (m : ℕ) (end z : ℤ) → m < f.extent → value ts ls (list_end f e) ≡ z → int_lt (pos m) z ≡ false → (Under m → ⊥) → (Under (m + 1) → ⊥) → Shows m (view ts ls (list_walk f e) end (pos m))
@@ -245,7 +251,8 @@ module _ (ts : Store) (ls : List ℤ) (f : Fibre) (e : IExpr) (s : Frozen) (p : 
       let later = held_no idx from to (m + 1) (past (m + 1) further) in
       let skip : view ts ls (list_walk f e) end (pos m) ≡ view ts ls (Sequence (rest f ∷ [])) end (pos m) =
       view_phase ts ls spikes (rest f ∷ []) end (pos m)
-      ∙ ap (λ b. if b then ended (int_le (value ts ls (list_end f e)) (pos m +ℤ pos 1)) false (view ts ls (Stepper (list_walker f e)) (value ts ls (list_end f e)) (pos m)) else view ts ls (Sequence (rest f ∷ [])) end (pos m))
+      ∙ ap (λ b. if b then ended (int_le (value ts ls (list_end f e)) (pos m +ℤ pos 1)) false (view ts ls (Stepper (list_walker f e)) (value ts ls (list_end f e)) (pos m)) else view ts ls
+        (Sequence (rest f ∷ [])) end (pos m))
       (ap (int_lt (pos m)) is ∙ behind) in
       let r = rest_shows ts ls f m end lt in
       subst (Shows m) (sym skip) (record {

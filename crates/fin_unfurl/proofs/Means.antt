@@ -21,13 +21,14 @@ use Rattle.fin_looplet.specs.declared.looplet.Looplet.{Looplet}
 use Rattle.fin_looplet.specs.View.{Store, value, view, View, Sight, gap, word, position, plain, stops, IsBreak}
 use Rattle.fin_looplet.specs.Sound.{Places, anywhere, SoundWithin}
 use Rattle.fin_unfurl.specs.declared.fibre.Fibre.{Fibre}
-use Rattle.fin_unfurl.specs.Fibres.{Asked, IsApart, Stand, nowhere, at, IsPlaced, StandsAt, sight_of, sight_at, varies_at, BreaksAt, length_of, ShowsLeaves, ShowsVarying, ShowsBreaks, IsSound, HasFewStops}
+use Rattle.fin_unfurl.specs.Fibres.{Asked, IsApart, Stand, nowhere, at, IsPlaced, StandsAt, sight_of, sight_at, varies_at, BreaksAt, length_of, ShowsLeaves, ShowsVarying, ShowsBreaks, IsSound, HasFewStops, OwnsTwo, DependsOnPlace}
 use Rattle.fin_unfurl.specs.Walks.{walk_of, below_of, fibre_of, guarded, unfurled}
 use Rattle.fin_unfurl.proofs.Small.{natural, sub_is}
 use Rattle.fin_unfurl.proofs.Places.{Here, sight_below}
 use Rattle.fin_unfurl.proofs.Shows.{ShowsAt, sight_or}
 use Rattle.fin_unfurl.proofs.Walked.{stop_after, walk_shows, walk_sound}
 use Rattle.fin_unfurl.proofs.Guards.{guarded_on, guarded_off, guarded_sound_on, guarded_sound_off}
+use Rattle.fin_unfurl.proofs.Dependence.{guarded_owns, guarded_free}
 use Rattle.fin_unfurl.proofs.Counts.{filter_at_most, filter_none, span_is}
 
 abbrev ends_of : Asked → Stand → ℕ → Bool
@@ -74,7 +75,8 @@ module _ (a : Asked) (within : a.level < length a.format.levels) (apart : IsApar
           | false ↦ ap (λ (k : ℕ). position a.tensor k (pos q)) small
         ]
 
-    shows : (stand : Stand) → StandsAt ts ls a stand → (m : ℕ) (end : ℤ) → m < a.extent → ShowsAt (view ts ls made end (pos m)) (sight_at a stand m) (varies_at a stand m) (ends_of a stand m) (stops_of a stand m) (m + 1 < a.extent)
+    shows : (stand : Stand) → StandsAt ts ls a stand → (m : ℕ) (end : ℤ) → m < a.extent
+      → ShowsAt (view ts ls made end (pos m)) (sight_at a stand m) (varies_at a stand m) (ends_of a stand m) (stops_of a stand m) (m + 1 < a.extent)
     shows nowhere off m end lt =
         subst (λ (v : View). ShowsAt v (gap a.format.fill) false false false (m + 1 < a.extent)) (sym (guarded_off ts ls (fibre_of a) a.there (walk_of kind (fibre_of a) a.place) end (pos m) off))
         (record { sight = refl; varies = refl; ends = λ _. refl; stop = λ x. x })
@@ -110,13 +112,15 @@ module _ (a : Asked) (within : a.level < length a.format.levels) (apart : IsApar
             let lines = level_keys i.kind a.extent i.count ptr idx i.level in
             let from = slice_index ptr p in
             let to = slice_index ptr (p + 1) in
-            let weaker = filter_at_most (λ k. holds_number idx from to (lo + k)) (λ k. holds_number idx from to (k + lo)) 0 m (λ k l u x. let e : lo + k ≡ k + lo = omega arith in subst (λ (y : ℕ). holds_number idx from to y ≡ true) e x) in
+            let weaker = filter_at_most (λ k. holds_number idx from to (lo + k)) (λ k. holds_number idx from to (k + lo)) 0 m
+              (λ k l u x. let e : lo + k ≡ k + lo = omega arith in subst (λ (y : ℕ). holds_number idx from to y ≡ true) e x) in
             omega (arith, weaker, stored_are_few idx from to lo 0 m (lines.0.rises p i.within))
         of_part (part.Runs ptr stop) i =
             let lines = level_runs i.kind a.extent i.count ptr stop i.level in
             let from = slice_index ptr p in
             let to = slice_index ptr (p + 1) in
-            let weaker = filter_at_most (λ k. holds_number stop from to (lo + k + 1)) (λ k. holds_number stop from to (k + (lo + 1))) 0 m (λ k l u x. let e : lo + k + 1 ≡ k + (lo + 1) = omega arith in subst (λ (y : ℕ). holds_number stop from to y ≡ true) e x) in
+            let weaker = filter_at_most (λ k. holds_number stop from to (lo + k + 1)) (λ k. holds_number stop from to (k + (lo + 1))) 0 m
+              (λ k l u x. let e : lo + k + 1 ≡ k + (lo + 1) = omega arith in subst (λ (y : ℕ). holds_number stop from to y ≡ true) e x) in
             omega (arith, weaker, stored_are_few stop from to (lo + 1) 0 m (lines.0.rises p i.within))
         of_part (part.Band ptr start) i = omega (arith, filter_none 0 m)
 
@@ -151,15 +155,23 @@ module _ (a : Asked) (within : a.level < length a.format.levels) (apart : IsApar
   pub made_sound : IsSound a made
   made_sound ts ls stand h lo hi le i low high =
       let n = natural i (at_most_in (pos 0) i (omega (arith, le_out (pos lo) i low))) in
-      subst (SoundWithin anywhere ts ls made (λ j. j <ℤ pos hi)) (sym n.1) (sound_at ts ls anywhere (λ j. j <ℤ pos hi) stand h n.0 (omega (arith, le, lt_out i (pos hi) high, ap up n.1, ap down n.1)))
+      subst (SoundWithin anywhere ts ls made (λ j. j <ℤ pos hi)) (sym n.1)
+        (sound_at ts ls anywhere (λ j. j <ℤ pos hi) stand h n.0 (omega (arith, le, lt_out i (pos hi) high, ap up n.1, ap down n.1)))
 
   pub made_stops : HasFewStops a made
   made_stops ts ls stand h lo hi le =
       let m = span (pos lo) (pos hi) - 1 in
       let long = span_is lo hi in
-      let weaker = filter_at_most (λ k. (view ts ls made (pos hi) (pos lo +ℤ pos k)).stop) (λ k. stops_of a stand (lo + k)) 0 m (λ k l u x. (shows ts ls stand h (lo + k) (pos hi) (omega (arith, u, long, le))).stop x) in
+      let weaker = filter_at_most (λ k. (view ts ls made (pos hi) (pos lo +ℤ pos k)).stop) (λ k. stops_of a stand (lo + k)) 0 m
+        (λ k l u x. (shows ts ls stand h (lo + k) (pos hi) (omega (arith, u, long, le))).stop x) in
       omega (arith, weaker, few_stops ts ls stand h lo m)
 
 -- the looplet that is made of the fibre and its level is the unfurled one
 pub made_is : (a : Asked) (f : Fibre) (l : Level) → f ≡ fibre_of a → l ≡ slice_index_or a.format.levels a.level level.Dense → guarded f a.there (walk_of l f a.place) ≡ made_of a
 made_is a f l e k = ap (λ (x : Fibre). guarded x a.there (walk_of l x a.place)) e ∙ ap (λ (x : Level). guarded (fibre_of a) a.there (walk_of x (fibre_of a) a.place)) k
+
+pub made_owns : (a : Asked) → OwnsTwo a (made_of a)
+made_owns a x o = guarded_owns (fibre_of a) a.place x (slice_index_or a.format.levels a.level level.Dense) a.there o
+
+pub made_depends : (a : Asked) → DependsOnPlace a (made_of a)
+made_depends a x h = guarded_free (fibre_of a) a.place x (slice_index_or a.format.levels a.level level.Dense) a.there h

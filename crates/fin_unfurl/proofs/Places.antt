@@ -83,7 +83,8 @@ module _ (ts : Store) (f : Fibre) (e : IExpr) (s : Frozen) (p : ℕ) (is : ts f.
         let first = ap (λ (xs : List ℕ). pos (slice_index xs p)) ptr_is in
         let last = ap (λ (xs : List ℕ). pos (slice_index xs (p + 1))) ptr_is in
         value_seek ts ls f.tensor f.level (begin f e) (end f e) (Local (f.cursor + 1))
-        ∙ ap (λ (y : Tensor). seek (slice_index (extents_in y) f.level) (fibres (extents_in y) (parts_in y) 1 f.level) (part_at (parts_in y) f.level) (value ts ls (begin f e)) (value ts ls (end f e)) (value ts ls (Local (f.cursor + 1)))) is
+        ∙ ap (λ (y : Tensor). seek (slice_index (extents_in y) f.level) (fibres (extents_in y) (parts_in y) 1 f.level) (part_at (parts_in y) f.level) (value ts ls (begin f e))
+          (value ts ls (end f e)) (value ts ls (Local (f.cursor + 1)))) is
         ∙ ap (λ (z : ℤ). seek n count part z (value ts ls (end f e)) (value ts ls (Local (f.cursor + 1)))) (begin_value ∙ first)
         ∙ ap (λ (z : ℤ). seek n count part (pos from) z (value ts ls (Local (f.cursor + 1)))) (end_value ∙ last)
         ∙ ap (λ (z : ℤ). seek n count part (pos from) (pos to) z) (value_local ts ls (f.cursor + 1) ∙ at)

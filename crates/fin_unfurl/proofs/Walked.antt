@@ -38,7 +38,8 @@ module _ (ts : Store) (ls : List ℤ) (f : Fibre) (e : IExpr) (s : Frozen) (p : 
   walk_shows level.Band (part.Band ptr start) is lv = band_shows ts ls f e s p h ptr start is
   walk_shows kind x is lv = absurd lv
 
-  pub walk_sound : (kind : Level) (x : Part) → part_at s.parts f.level ≡ x → IsLevel kind f.extent count x → (bound served : Places) (m : ℕ) → m < f.extent → SoundWithin bound ts ls (walk_of kind f e) served (pos m)
+  pub walk_sound : (kind : Level) (x : Part) → part_at s.parts f.level ≡ x → IsLevel kind f.extent count x → (bound served : Places) (m : ℕ) → m < f.extent
+    → SoundWithin bound ts ls (walk_of kind f e) served (pos m)
   walk_sound level.Dense part.Dense is lv = λ bound served m lt. tt
   walk_sound level.List (part.Keys ptr idx) is lv = list_sound ts ls f e s p h ptr idx is
   walk_sound level.Dict (part.Keys ptr idx) is lv = list_sound ts ls f e s p h ptr idx is

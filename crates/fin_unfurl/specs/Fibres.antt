@@ -9,10 +9,10 @@ use Rattle.fin_ir.specs.Loads.{part_at}
 use Rattle.fin_ir.specs.Machine.{stored}
 use Rattle.fin_ir.specs.Value.{is_off}
 use Rattle.fin_looplet.specs.declared.looplet.Looplet.{Looplet}
-use Rattle.fin_looplet.specs.Names.{Names, Loads}
+use Rattle.fin_looplet.specs.Names.{Names}
 use Rattle.fin_looplet.specs.View.{Store, value, Sight, gap, word, position, view, stops, IsBreak}
 use Rattle.fin_looplet.specs.Sound.{SoundIn}
-use Rattle.fin_looplet.specs.Locals.{Free, LoadsIn, Owns}
+use Rattle.fin_looplet.specs.Locals.{Free, Owns}
 
 -- a fibre, as it is asked for
 pub record Asked : Type 0 where
@@ -25,7 +25,8 @@ pub record Asked : Type 0 where
   pub cursor : ℕ
 
 abbrev pub asked : Format → ℕ → ℕ → ℕ → IExpr → IExpr → ℕ → Asked
-asked format tensor level extent place there cursor = record { format = format; tensor = tensor; level = level; extent = extent; place = place; there = there; cursor = cursor }
+asked format tensor level extent place there cursor =
+    record { format = format; tensor = tensor; level = level; extent = extent; place = place; there = there; cursor = cursor }
 
 -- the expression names neither the cursor nor the local above it
 abbrev pub IsApart : ℕ → IExpr → Type 0
@@ -58,7 +59,10 @@ StandsAt ts ls a (at s p) = IsPlaced ts ls a s p
 -- a value, or a position of the next level
 abbrev pub sight_of : Asked → Frozen → Option ℕ → Sight
 sight_of a s None = gap a.format.fill
-sight_of a s (Some q) = if nat_eq (a.level + 1) (length a.format.levels) then word (slice_index_or s.val q (pos 0)) else position a.tensor (a.level + 1) (pos q)
+sight_of a s (Some q) =
+    if nat_eq (a.level + 1) (length a.format.levels)
+    then word (slice_index_or s.val q (pos 0))
+    else position a.tensor (a.level + 1) (pos q)
 
 abbrev pub sight_at : Asked → Stand → ℕ → Sight
 sight_at a nowhere i = gap a.format.fill
@@ -80,11 +84,13 @@ length_of a (at s p) = fibre.stored_length fibre.walked (part_at s.parts a.level
 
 -- at each coordinate it shows what the storage has
 abbrev pub ShowsLeaves : Asked → Looplet → Type 0
-ShowsLeaves a l = (ts : Store) (ls : List ℤ) (stand : Stand) → StandsAt ts ls a stand → (end : ℤ) (i : ℕ) → i < a.extent → (view ts ls l end (pos i)).seen.sight ≡ sight_at a stand i
+ShowsLeaves a l = (ts : Store) (ls : List ℤ) (stand : Stand) → StandsAt ts ls a stand → (end : ℤ) (i : ℕ) → i < a.extent
+  → (view ts ls l end (pos i)).seen.sight ≡ sight_at a stand i
 
 -- and it varies where the fibre does
 abbrev pub ShowsVarying : Asked → Looplet → Type 0
-ShowsVarying a l = (ts : Store) (ls : List ℤ) (stand : Stand) → StandsAt ts ls a stand → (end : ℤ) (i : ℕ) → i < a.extent → (view ts ls l end (pos i)).seen.varies ≡ varies_at a stand i
+ShowsVarying a l = (ts : Store) (ls : List ℤ) (stand : Stand) → StandsAt ts ls a stand → (end : ℤ) (i : ℕ) → i < a.extent
+  → (view ts ls l end (pos i)).seen.varies ≡ varies_at a stand i
 
 -- inside each region of the fibre it breaks where the fibre does
 abbrev pub ShowsBreaks : Asked → Looplet → Type 0
@@ -97,15 +103,15 @@ IsSound a l = (ts : Store) (ls : List ℤ) (stand : Stand) → StandsAt ts ls a 
 
 -- and has no more stops than the fibre has places
 abbrev pub HasFewStops : Asked → Looplet → Type 0
-HasFewStops a l = (ts : Store) (ls : List ℤ) (stand : Stand) → StandsAt ts ls a stand → (lo hi : ℕ) → hi ≤ a.extent → stops ts ls l (pos lo) (pos hi) ≤ length_of a stand
+HasFewStops a l = (ts : Store) (ls : List ℤ) (stand : Stand) → StandsAt ts ls a stand → (lo hi : ℕ) → hi ≤ a.extent
+  → stops ts ls l (pos lo) (pos hi) ≤ length_of a stand
 
--- ---- what it depends on
+-- ---- locals
 
+-- its own locals are the cursor and the one above it
 abbrev pub OwnsTwo : Asked → Looplet → Type 0
 OwnsTwo a l = (x : ℕ) → Owns x l → (x ≡ a.cursor) ⊎ (x ≡ a.cursor + 1)
 
+-- it depends on no local but those of the position, and of whether that is there
 abbrev pub DependsOnPlace : Asked → Looplet → Type 0
 DependsOnPlace a l = (x : ℕ) → Free x l → Names x a.place ⊎ Names x a.there
-
-abbrev pub LoadsTensor : Asked → Looplet → Type 0
-LoadsTensor a l = (t : ℕ) → LoadsIn t l → (t ≡ a.tensor) ⊎ (Loads t a.place ⊎ Loads t a.there)

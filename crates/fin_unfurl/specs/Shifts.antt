@@ -29,13 +29,16 @@ edged child by n fill = Sequence (outside fill by ∷ boxed child by n ∷ outsi
 
 -- leaves, and whether they vary
 abbrev pub MovesLeaves : Looplet → IExpr → Looplet → Type 0
-MovesLeaves child by l = (ts : Store) (ls : List ℤ) (end i : ℤ) → (view ts ls l end i).seen ≡ (view ts ls child (end -ℤ value ts ls by) (i -ℤ value ts ls by)).seen
+MovesLeaves child by l = (ts : Store) (ls : List ℤ) (end i : ℤ)
+  → (view ts ls l end i).seen ≡ (view ts ls child (end -ℤ value ts ls by) (i -ℤ value ts ls by)).seen
 
 abbrev pub MovesBreaks : Looplet → IExpr → Looplet → Type 0
-MovesBreaks child by l = (ts : Store) (ls : List ℤ) (lo hi x : ℤ) → IsBreak ts ls l lo hi x ↔ IsBreak ts ls child (lo -ℤ value ts ls by) (hi -ℤ value ts ls by) (x -ℤ value ts ls by)
+MovesBreaks child by l = (ts : Store) (ls : List ℤ) (lo hi x : ℤ)
+  → IsBreak ts ls l lo hi x ↔ IsBreak ts ls child (lo -ℤ value ts ls by) (hi -ℤ value ts ls by) (x -ℤ value ts ls by)
 
 abbrev pub MovesStops : Looplet → IExpr → Looplet → Type 0
-MovesStops child by l = (ts : Store) (ls : List ℤ) (lo hi x : ℤ) → IsStop ts ls l lo hi x ↔ IsStop ts ls child (lo -ℤ value ts ls by) (hi -ℤ value ts ls by) (x -ℤ value ts ls by)
+MovesStops child by l = (ts : Store) (ls : List ℤ) (lo hi x : ℤ)
+  → IsStop ts ls l lo hi x ↔ IsStop ts ls child (lo -ℤ value ts ls by) (hi -ℤ value ts ls by) (x -ℤ value ts ls by)
 
 -- a child that is sound in a region gives a looplet that is sound in the moved one
 abbrev pub KeepsSound : Looplet → IExpr → Looplet → Type 0
@@ -49,7 +52,9 @@ is_inside by n i = int_le by i && int_lt i (by +ℤ pos n)
 
 abbrev pub Edges : Looplet → IExpr → ℕ → ℤ → Looplet → Type 0
 Edges child by n fill l = (ts : Store) (ls : List ℤ) (end : ℤ) (i : ℕ) → i < 2 ^ 40 →
-    (view ts ls l end (pos i)).seen ≡ (if is_inside (value ts ls by) n (pos i) then (view ts ls child (pos n) (pos i -ℤ value ts ls by)).seen else record { sight = gap fill; varies = false })
+    (view ts ls l end (pos i)).seen ≡ (if is_inside (value ts ls by) n (pos i)
+    then (view ts ls child (pos n) (pos i -ℤ value ts ls by)).seen
+    else record { sight = gap fill; varies = false })
 
 -- its two ends are breaks, beside those of the child
 abbrev pub EdgesBreak : Looplet → IExpr → ℕ → Looplet → Type 0
@@ -59,7 +64,8 @@ EdgesBreak child by n l = (ts : Store) (ls : List ℤ) (lo hi : ℕ) → hi ≤ 
 -- it stops where a walker's child of the child ends, also at the edge's end
 abbrev pub EdgesStop : Looplet → IExpr → ℕ → Looplet → Type 0
 EdgesStop child by n l = (ts : Store) (ls : List ℤ) (lo hi : ℕ) → hi ≤ 2 ^ 40 → (x : ℕ) → IsStop ts ls l (pos lo) (pos hi) (pos x)
-    ↔ ((lo < x) × (x < hi) × (value ts ls by <ℤ pos x) × (pos x ≤ℤ (value ts ls by +ℤ pos n)) × ((view ts ls child (pos n) (pos x -ℤ value ts ls by -ℤ pos 1)).stop ≡ true))
+    ↔ ((lo < x) × (x < hi) × (value ts ls by <ℤ pos x) × (pos x ≤ℤ (value ts ls by +ℤ pos n)) ×
+      ((view ts ls child (pos n) (pos x -ℤ value ts ls by -ℤ pos 1)).stop ≡ true))
 
 -- a child that is sound in the extent gives a looplet that is sound wherever loops go
 abbrev pub EdgesSound : Looplet → ℕ → Looplet → Type 0

@@ -13,8 +13,8 @@ use std::alloc::{AllocError, Global};
 /// No coordinate of a loop is this one or over it.
 const END: i64 = 1_099_511_627_776;
 
-/// The looplet of the comparison of the coordinate with a bound, whatever word that is: 1 where it holds and 0 elsewhere,
-/// from 0 to 2^40 - 1.
+/// The looplet of the comparison of the coordinate with a bound, whatever word that is: 1 where it holds and 0
+/// elsewhere, from 0 to 2^40 - 1.
 pub fn mask(alloc: Global, op: Op, bound: IExpr) -> Result<Looplet, AllocError>
     requires { IsTrue (is_comparison op) }
     ensures holds { IfOk result (Compares op bound) }

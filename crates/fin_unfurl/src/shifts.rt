@@ -17,8 +17,8 @@ const END: i64 = 1_099_511_627_776;
 /// No box that ends at 0 or later begins here or before.
 const FAR: i64 = -2_199_023_255_553;
 
-/// The looplet moved up by `by`. Where an index may leave its dimension, `edge` is that extent and the fill, which stands
-/// outside of it, at the coordinates from 0 to 2^40 - 1.
+/// The looplet moved up by `by`. Where an index may leave its dimension, `edge` is that extent and the fill, which
+/// stands outside of it, at the coordinates from 0 to 2^40 - 1.
 pub fn shift(
     alloc: Global,
     child: Looplet,

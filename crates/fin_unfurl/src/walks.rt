@@ -1,7 +1,7 @@
 //! The looplet of a walked fibre.
 ghost use Rattle.std.specs.Prelude.{◌≡◌, ◌+◌, ◌<◌, ◌≤◌, ◌^◌, [], ◌∷◌, IfOk, length};
 ghost use Rattle.fin_ir.specs.declared.expression.IExpr.TheVariants as made;
-ghost use Rattle.fin_unfurl.specs.Fibres.{asked, IsApart, ShowsLeaves, ShowsVarying, ShowsBreaks, IsSound, HasFewStops};
+ghost use Rattle.fin_unfurl.specs.Fibres.{asked, IsApart, ShowsLeaves, ShowsVarying, ShowsBreaks, IsSound, HasFewStops, OwnsTwo, DependsOnPlace};
 ghost use Rattle.fin_unfurl.specs.Walks as spec;
 
 use crate::fibre::Fibre;
@@ -13,8 +13,8 @@ use fin_tensor::{Format, Level};
 use sqlite_items::{Boxed, Items};
 use std::alloc::{AllocError, Global};
 
-/// The looplet of the fibre at the position `pos` of a level that is walked; of the fill where `there` is 0. The level is in
-/// the format and has that extent. The looplet's own locals are `cursor` and the one above it.
+/// The looplet of the fibre at the position `pos` of a level that is walked; of the fill where `there` is 0. The level
+/// is in the format and has that extent. The looplet's own locals are `cursor` and the one above it.
 pub fn unfurl(
     alloc: Global,
     format: &Format,
@@ -37,6 +37,8 @@ pub fn unfurl(
     ensures breaks { IfOk result (ShowsBreaks (asked format.now tensor level extent pos there cursor)) }
     ensures sound { IfOk result (IsSound (asked format.now tensor level extent pos there cursor)) }
     ensures stops { IfOk result (HasFewStops (asked format.now tensor level extent pos there cursor)) }
+    ensures owns { IfOk result (OwnsTwo (asked format.now tensor level extent pos there cursor)) }
+    ensures depends { IfOk result (DependsOnPlace (asked format.now tensor level extent pos there cursor)) }
 {
     let fibre = fibre_in(format, tensor, level, extent, cursor);
     unfurled(alloc, *format.levels.get(level as usize), fibre, &pos, there)
