@@ -1,9 +1,8 @@
 -- The walk of a band: the block, with the fill before and behind it.
-use Rattle.std.proofs.Common.{◌≡◌, ℕ, ◌+◌, ◌-◌, ◌*◌, ◌<◌, ◌≤◌, ◌^◌, List, [], ◌∷◌, length, refl, sym, ap, ◌∙◌, subst, inl, inr, ◌⊎◌, ⊎_elim, ℤ, pos, ◌+ℤ◌, ◌≤ℤ◌, ◌<ℤ◌, Some, None, Bool, true, false, T, w64, arith}
-use Rattle.std.specs.Prelude.{slice_index, slice_index_or, slice_set, ◌||◌, ◌&&◌, nat_lt, nat_eq, int_lt, int_le, if◌then◌else◌, Option, is_some}
+use Rattle.std.proofs.Common.{◌≡◌, ℕ, ◌+◌, ◌-◌, ◌<◌, ◌≤◌, ◌^◌, List, [], ◌∷◌, refl, sym, ap, ◌∙◌, subst, inl, inr, ◌⊎◌, ⊎_elim, ℤ, pos, Some, None, Bool, true, false, w64, arith}
+use Rattle.std.specs.Prelude.{slice_index, slice_set, ◌||◌, ◌&&◌, nat_lt, nat_eq, int_lt, int_le, if◌then◌else◌, is_some}
 use Rattle.std.proofs.lemmas.Bool.{cases_lt}
-use Rattle.std.proofs.lemmas.List.{get_or_past, get_or-set_same}
-use borrow.Author.Differences.{up, down, below_in, at_most_in, lt_out, le_out, lt-true}
+use Rattle.std.proofs.lemmas.List.{get_or-set_same}
 use Rattle.fin_base.specs.declared.terms.Op.TheVariants as op
 use Rattle.fin_base.specs.Words.{truth}
 use Rattle.std.specs.Int.{int_wrap}
@@ -19,21 +18,18 @@ use Rattle.fin_ir.specs.Frozen.{Frozen}
 use Rattle.fin_ir.specs.Loads.{table_in, part_at}
 use Rattle.fin_ir.specs.Value.{is_off}
 use Rattle.fin_ir.proofs.Values.{value_num, value_local, value_pick}
-use Rattle.fin_looplet.specs.declared.looplet.Phase.{Phase}
-use Rattle.fin_looplet.specs.declared.looplet.Leaf.TheVariants.{Fill}
-use Rattle.fin_looplet.specs.declared.looplet.Looplet.TheVariants.{Run, Lookup, Sequence, Stepper}
-use Rattle.fin_looplet.specs.View.{Store, value, view, View, Sight, gap, leaf_sight, ended, plain, at_step}
+use Rattle.fin_looplet.specs.declared.looplet.Looplet.TheVariants.{Sequence}
+use Rattle.fin_looplet.specs.View.{Store, value, view, View, gap, leaf_sight, ended, plain}
 use Rattle.fin_looplet.specs.Sound.{Places, SoundWithin}
 use Rattle.fin_looplet.proofs.Exprs.{value_set}
-use Rattle.fin_looplet.proofs.Bridges.{view_phase, view_stepper, sound_phase, sound_stepper}
+use Rattle.fin_looplet.proofs.Bridges.{view_phase, sound_phase}
 use Rattle.fin_unfurl.specs.declared.fibre.Fibre.{Fibre}
-use Rattle.fin_unfurl.specs.Parts.{next, cell, begin, end, place, leaf}
+use Rattle.fin_unfurl.specs.Parts.{begin, end, leaf}
 use Rattle.fin_unfurl.specs.Walks.{filled, rest, has_places, start as start_of, block_begin, block_end, block_place, block, band_walk}
 use Rattle.fin_unfurl.proofs.Places.{Here, two_is, cell_value, begin_value, end_value, leaf_value}
 use Rattle.fin_unfurl.proofs.Phases.{rest_shows, rest_sound, places_value}
-use Rattle.fin_unfurl.proofs.Small.{wrap_small, lt_yes, lt_no, le_yes, le_no, natural, sub_is}
-use Rattle.fin_unfurl.proofs.Keys.{key_some, key_none, held_yes, held_no}
-use Rattle.fin_unfurl.proofs.Shows.{shown, ShowsAt, sight_or}
+use Rattle.fin_unfurl.proofs.Small.{wrap_small, lt_yes, lt_no, le_yes, le_no, sub_is}
+use Rattle.fin_unfurl.proofs.Shows.{ShowsAt, sight_or}
 
 module _ (ts : Store) (ls : List ℤ) (f : Fibre) (e : IExpr) (s : Frozen) (p : ℕ) (h : Here ts ls f e s p) (ptr start : List ℕ) (kind : part_at s.parts f.level ≡ part.Band ptr start) where
   abbrev from : ℕ
@@ -86,9 +82,9 @@ module _ (ts : Store) (ls : List ℤ) (f : Fibre) (e : IExpr) (s : Frozen) (p : 
       value_pick ts ls (has_places f e) (start_of f e) (Num (pos 0))
       ∙ ⊎_elim
       (λ (o : (from < to) × (z ≡ at)). ap (λ (x : ℤ). if is_off x then value ts ls (Num (pos 0)) else value ts ls (start_of f e)) (some_value ∙ ap truth (lt_yes from to o.0))
-        ∙ start_is ls h.here ∙ ap pos (sym o.1))
+      ∙ start_is ls h.here ∙ ap pos (sym o.1))
       (λ (o : (to ≤ from) × (z ≡ 0)). ap (λ (x : ℤ). if is_off x then value ts ls (Num (pos 0)) else value ts ls (start_of f e)) (some_value ∙ ap truth (lt_no from to o.0))
-        ∙ value_num ts ls (pos 0) ∙ ap pos (sym o.1))
+      ∙ value_num ts ls (pos 0) ∙ ap pos (sym o.1))
       d
 
   last_value : (z : ℕ) → stood z → value ts ls (block_end f e) ≡ pos (z + (to - from))
@@ -96,7 +92,7 @@ module _ (ts : Store) (ls : List ℤ) (f : Fibre) (e : IExpr) (s : Frozen) (p : 
       let low : z ≤ 2 ^ 40 = ⊎_elim (λ (o : (from < to) × (z ≡ at)). omega (arith, o.1, at_small)) (λ (o : (to ≤ from) × (z ≡ 0)). omega (arith, o.1)) d in
       let long : value ts ls (Two op.Sub (end f e) (begin f e)) ≡ pos (to - from) =
       two_is ts ls op.Sub (end f e) (begin f e) (pos to) (pos from) (end_is ls h.here) (begin_is ls h.here) ∙ ap (int_wrap w64) (sub_is to from order)
-        ∙ wrap_small (to - from) (omega (arith, to_small)) in
+      ∙ wrap_small (to - from) (omega (arith, to_small)) in
       two_is ts ls op.Add (block_begin f e) (Two op.Sub (end f e) (begin f e)) (pos z) (pos (to - from)) (first_value z d) long
       ∙ wrap_small (z + (to - from)) (omega (arith, to_small, low))
 
@@ -133,7 +129,7 @@ module _ (ts : Store) (ls : List ℤ) (f : Fibre) (e : IExpr) (s : Frozen) (p : 
 
   band_view : (m : ℕ) (end : ℤ) (z : ℕ) → stood z → view ts ls (band_walk f e) end (pos m)
       ≡ (if int_lt (pos m) (pos z) then ended (int_le (pos z) (pos (m + 1))) false before
-         else (if int_lt (pos m) (pos (z + (to - from))) then ended (int_le (pos (z + (to - from))) (pos (m + 1))) false (within m) else behind m end))
+      else (if int_lt (pos m) (pos (z + (to - from))) then ended (int_le (pos (z + (to - from))) (pos (m + 1))) false (within m) else behind m end))
   band_view m end z d =
       view_phase ts ls (filled f (block_begin f e)) (block f e ∷ rest f ∷ []) end (pos m)
       ∙ ap (λ (x : ℤ). if int_lt (pos m) x then ended (int_le x (pos (m + 1))) false before else view ts ls (Sequence (block f e ∷ rest f ∷ [])) end (pos m)) (first_value z d)
@@ -152,11 +148,11 @@ module _ (ts : Store) (ls : List ℤ) (f : Fibre) (e : IExpr) (s : Frozen) (p : 
       let short : to - from ≡ 0 = omega arith in
       let over : nat_lt (m - at) (to - from) ≡ false = grind (arith, nat_tests) in
       let none : block_in from to at m ≡ None = elim (nat_lt m at) as
-        (λ b. (if b then None else (if nat_lt (m - at) (to - from) then Some (from + (m - at)) else None)) ≡ None) [ | true ↦ refl | false ↦ rw over refl ] in
+      (λ b. (if b then None else (if nat_lt (m - at) (to - from) then Some (from + (m - at)) else None)) ≡ None) [ true ↦ refl | false ↦ rw over refl ] in
       let is : view ts ls (band_walk f e) end (pos m) ≡ behind m end =
       band_view m end 0 (inr (le, refl))
       ∙ ap (λ b. if b then ended (int_le (pos 0) (pos (m + 1))) false before else
-        (if int_lt (pos m) (pos (0 + (to - from))) then ended (int_le (pos (0 + (to - from))) (pos (m + 1))) false (within m) else behind m end)) (lt_no m 0 (omega arith))
+      (if int_lt (pos m) (pos (0 + (to - from))) then ended (int_le (pos (0 + (to - from))) (pos (m + 1))) false (within m) else behind m end)) (lt_no m 0 (omega arith))
       ∙ ap (λ b. if b then ended (int_le (pos (0 + (to - from))) (pos (m + 1))) false (within m) else behind m end) (lt_no m (0 + (to - from)) (omega (arith, short))) in
       subst (Shows m) (sym is) (out_shows m end lt none (λ _. ap (λ b. b && (nat_eq (m + 1) at || nat_eq (m + 1) (at + (to - from)))) some))
 
@@ -179,20 +175,20 @@ module _ (ts : Store) (ls : List ℤ) (f : Fibre) (e : IExpr) (s : Frozen) (p : 
         let is : view ts ls (band_walk f e) end (pos m) ≡ ended (int_le (pos at) (pos (m + 1))) false before =
         band_view m end at (inl (some, refl))
         ∙ ap (λ b. if b then ended (int_le (pos at) (pos (m + 1))) false before else
-          (if int_lt (pos m) (pos stop) then ended (int_le (pos stop) (pos (m + 1))) false (within m) else behind m end)) (lt_yes m at l) in
+        (if int_lt (pos m) (pos stop) then ended (int_le (pos stop) (pos (m + 1))) false (within m) else behind m end)) (lt_yes m at l) in
         subst (Shows m) (sym is)
         (⊎_elim
         (λ (far : m + 1 < at).
         let low : nat_eq (m + 1) at ≡ false = grind (arith, nat_tests) in
         let off : (nat_eq (m + 1) at || nat_eq (m + 1) stop) ≡ false = rw (low, high) refl in
         subst (λ b. Shows m (ended b false before)) (sym (le_no at (m + 1) far))
-          (record { sight = ap (sight_or f s) (sym none); varies = sym (ap is_some none); ends = λ _. sym (ends_is false off); stop = λ x. x }))
+        (record { sight = ap (sight_or f s) (sym none); varies = sym (ap is_some none); ends = λ _. sym (ends_is false off); stop = λ x. x }))
         (λ (near : at ≤ m + 1).
         let eq : m + 1 ≡ at = omega arith in
         let low : nat_eq (m + 1) at ≡ true = grind (arith, nat_tests) in
         let on : (nat_eq (m + 1) at || nat_eq (m + 1) stop) ≡ true = rw low refl in
         subst (λ b. Shows m (ended b false before)) (sym (le_yes at (m + 1) near))
-          (record { sight = ap (sight_or f s) (sym none); varies = sym (ap is_some none); ends = λ _. sym (ends_is true on); stop = λ x. x }))
+        (record { sight = ap (sight_or f s) (sym none); varies = sym (ap is_some none); ends = λ _. sym (ends_is true on); stop = λ x. x }))
         (cases_lt (m + 1) at))
 
     within_shows : at ≤ m → m < stop → Shows m (view ts ls (band_walk f e) end (pos m))
@@ -206,7 +202,7 @@ module _ (ts : Store) (ls : List ℤ) (f : Fibre) (e : IExpr) (s : Frozen) (p : 
         let is : view ts ls (band_walk f e) end (pos m) ≡ ended (int_le (pos stop) (pos (m + 1))) false (within m) =
         band_view m end at (inl (some, refl))
         ∙ ap (λ x. if x then ended (int_le (pos at) (pos (m + 1))) false before else
-          (if int_lt (pos m) (pos stop) then ended (int_le (pos stop) (pos (m + 1))) false (within m) else behind m end)) (lt_no m at l)
+        (if int_lt (pos m) (pos stop) then ended (int_le (pos stop) (pos (m + 1))) false (within m) else behind m end)) (lt_no m at l)
         ∙ ap (λ x. if x then ended (int_le (pos stop) (pos (m + 1))) false (within m) else behind m end) (lt_yes m stop u) in
         subst (Shows m) (sym is)
         (⊎_elim
@@ -233,7 +229,7 @@ module _ (ts : Store) (ls : List ℤ) (f : Fibre) (e : IExpr) (s : Frozen) (p : 
         let is : view ts ls (band_walk f e) end (pos m) ≡ behind m end =
         band_view m end at (inl (some, refl))
         ∙ ap (λ x. if x then ended (int_le (pos at) (pos (m + 1))) false before else
-          (if int_lt (pos m) (pos stop) then ended (int_le (pos stop) (pos (m + 1))) false (within m) else behind m end)) (lt_no m at (omega arith))
+        (if int_lt (pos m) (pos stop) then ended (int_le (pos stop) (pos (m + 1))) false (within m) else behind m end)) (lt_no m at (omega arith))
         ∙ ap (λ x. if x then ended (int_le (pos stop) (pos (m + 1))) false (within m) else behind m end) (lt_no m stop u) in
         subst (Shows m) (sym is) (out_shows m end lt none (λ _. ends_is false off))
 
@@ -243,7 +239,7 @@ module _ (ts : Store) (ls : List ℤ) (f : Fibre) (e : IExpr) (s : Frozen) (p : 
       (λ (some : from < to).
       ⊎_elim (λ (l : m < at). before_shows m end lt some l)
       (λ (l : at ≤ m). ⊎_elim (λ (u : m < at + (to - from)). within_shows m end lt some l u) (λ (u : at + (to - from) ≤ m). behind_shows m end lt some u) (cases_lt m (at + (to - from))))
-        (cases_lt m at))
+      (cases_lt m at))
       (λ (le : to ≤ from). empty_shows m end lt le)
       (cases_lt from to)
 
@@ -254,9 +250,12 @@ module _ (ts : Store) (ls : List ℤ) (f : Fibre) (e : IExpr) (s : Frozen) (p : 
       sound_phase bound ts ls (filled f (block_begin f e)) (block f e ∷ rest f ∷ []) served (pos m)
       (elim (int_lt (pos m) y) as (λ b. (((b ≡ true) × Unit {0}) ⊎ ((b ≡ false) × SoundWithin bound ts ls (Sequence (block f e ∷ rest f ∷ [])) served (pos m)))) [
         | true ↦ inl (refl, tt)
-        | false ↦ inr (refl, sound_phase bound ts ls (block f e) (rest f ∷ []) served (pos m)
-            (elim (int_lt (pos m) z) as (λ c. ((c ≡ true) × Unit {0}) ⊎ ((c ≡ false) × SoundWithin bound ts ls (Sequence (rest f ∷ [])) served (pos m))) [
-              | true ↦ inl (refl, tt)
-              | false ↦ inr (refl, rest_sound bound ts ls f served m lt)
-            ]))
+        | false ↦ inr (
+          refl,
+          sound_phase bound ts ls (block f e) (rest f ∷ []) served (pos m)
+              (elim (int_lt (pos m) z) as (λ c. ((c ≡ true) × Unit {0}) ⊎ ((c ≡ false) × SoundWithin bound ts ls (Sequence (rest f ∷ [])) served (pos m))) [
+                | true ↦ inl (refl, tt)
+                | false ↦ inr (refl, rest_sound bound ts ls f served m lt)
+              ]),
+        )
       ])

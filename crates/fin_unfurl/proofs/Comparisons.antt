@@ -1,8 +1,8 @@
 -- The looplet of a comparison shows it.
-use Rattle.std.proofs.Common.{◌≡◌, ℕ, ◌+◌, ◌-◌, ◌<◌, ◌≤◌, ◌^◌, List, [], ◌∷◌, refl, sym, ap, ◌∙◌, subst, inl, inr, ◌⊎◌, ⊎_elim, Bool, true, false, T, IsTrue, ℤ, pos, negsuc, ◌+ℤ◌, ◌-ℤ◌, ◌≤ℤ◌, ◌<ℤ◌, w64, arith}
+use Rattle.std.proofs.Common.{◌≡◌, ℕ, ◌+◌, ◌-◌, ◌<◌, ◌≤◌, ◌^◌, List, [], ◌∷◌, refl, sym, ap, ◌∙◌, subst, inl, inr, ◌⊎◌, ⊎_elim, Bool, true, false, T, IsTrue, ℤ, pos, negsuc, ◌+ℤ◌, ◌<ℤ◌, w64, arith}
 use Rattle.std.specs.Prelude.{int_lt, int_le, not, ◌||◌, if◌then◌else◌}
 use Rattle.std.specs.Ordering.{int_eq}
-use Rattle.std.specs.Int.{int_wrap, int_min, int_max}
+use Rattle.std.specs.Int.{int_min, int_max}
 use Rattle.std.proofs.lemmas.Bool.{cases_lt}
 use Rattle.std.proofs.lemmas.Int.{int_wrap_fits, int_min_is, int_max_is}
 use borrow.Author.Differences.{up, down, same_in, sum_is_lem, lt_out, le_out, below_in, at_most_in, true_is_lt, false_is_lt, true_is_le, false_is_le, le-true, fits_in}
@@ -12,15 +12,13 @@ use Rattle.fin_base.specs.Words.{operate, truth}
 use Rattle.fin_ir.specs.declared.expression.IExpr.{IExpr}
 use Rattle.fin_ir.specs.declared.expression.IExpr.TheVariants.{Num, Two}
 use Rattle.fin_ir.proofs.Values.{value_num}
-use Rattle.fin_looplet.specs.declared.looplet.Looplet.{Looplet}
 use Rattle.fin_looplet.specs.declared.looplet.Looplet.TheVariants.{Sequence}
-use Rattle.fin_looplet.specs.declared.looplet.Phase.{Phase}
-use Rattle.fin_looplet.specs.View.{Store, value, view, View, Seen, word, ended, plain, IsBreak, IsStop}
+use Rattle.fin_looplet.specs.View.{Store, value, view, View, word, ended, plain}
 use Rattle.fin_looplet.specs.Sound.{Places, anywhere, SoundWithin}
 use Rattle.fin_looplet.proofs.Bridges.{view_phase, sound_phase}
 use Rattle.fin_unfurl.specs.Parts.{next}
 use Rattle.fin_unfurl.specs.Masks.{is_comparison, holds_before, holds_at, holds_behind, bounded, known, mask_of, Compares, BreaksAtBound, IsSoundMask, NeverStops}
-use Rattle.fin_unfurl.proofs.Small.{lt_yes, lt_no, le_yes, le_no, natural, sub_is}
+use Rattle.fin_unfurl.proofs.Small.{lt_yes, natural, sub_is}
 use Rattle.fin_unfurl.proofs.Places.{two_is}
 
 -- ---- a comparison by where the coordinate lies
@@ -77,7 +75,7 @@ module _ (o : Op) (b : IExpr) (compares : IsTrue (is_comparison o)) (ts : Store)
 
   bounded_is : value ts ls (bounded b) ≡ c
   bounded_is = two_is ts ls op.Max (Two op.Min b (Num (pos (2 ^ 40)))) (Num (negsuc 0)) (int_min z (pos (2 ^ 40))) (negsuc 0)
-    (two_is ts ls op.Min b (Num (pos (2 ^ 40))) z (pos (2 ^ 40)) refl (value_num ts ls (pos (2 ^ 40)))) (value_num ts ls (negsuc 0))
+      (two_is ts ls op.Min b (Num (pos (2 ^ 40))) z (pos (2 ^ 40)) refl (value_num ts ls (pos (2 ^ 40)))) (value_num ts ls (negsuc 0))
 
   next_is : value ts ls (next (bounded b)) ≡ c +ℤ pos 1
   next_is =
@@ -93,8 +91,8 @@ module _ (o : Op) (b : IExpr) (compares : IsTrue (is_comparison o)) (ts : Store)
   -- which run serves the coordinate
   mask_view : (i : ℕ) (end : ℤ) → i < 2 ^ 40 → view ts ls (mask_of o b) end (pos i)
       ≡ (if int_lt (pos i) c then ended (int_le c (pos (i + 1))) false (run (holds_before o))
-         else (if int_lt (pos i) (c +ℤ pos 1) then ended (int_le (c +ℤ pos 1) (pos (i + 1))) false (run (holds_at o))
-         else ended (int_le (pos (2 ^ 40)) (pos (i + 1))) false (run (holds_behind o))))
+      else (if int_lt (pos i) (c +ℤ pos 1) then ended (int_le (c +ℤ pos 1) (pos (i + 1))) false (run (holds_at o))
+      else ended (int_le (pos (2 ^ 40)) (pos (i + 1))) false (run (holds_behind o))))
   mask_view i end lt =
       let first = known (holds_before o) (bounded b) in
       let second = known (holds_at o) (next (bounded b)) in
@@ -125,7 +123,7 @@ module _ (o : Op) (b : IExpr) (compares : IsTrue (is_comparison o)) (ts : Store)
       subst (λ x. Shows (chosen i x (int_lt (pos i) (c +ℤ pos 1))) o i z) (true_is_lt (pos i) c (omega (arith, high, low)))
       (record {
         seen = run_seen (holds_before o) i (before_is o (pos i) z compares (omega arith));
-        stop = elim (int_le c (pos (i + 1))) as (λ x. (ended x false (run (holds_before o))).stop ≡ false) [ | true ↦ refl | false ↦ refl ];
+        stop = elim (int_le c (pos (i + 1))) as (λ x. (ended x false (run (holds_before o))).stop ≡ false) [ true ↦ refl | false ↦ refl ];
         ends_in = λ inside e. inl (same_in (pos (i + 1)) z (omega (arith, le-true c (pos (i + 1)) (or_not (int_le c (pos (i + 1))) e), high, low, inside)));
         ends_out = λ inside e. ap (λ x. (ended x false (run (holds_before o))).ends) (sym (true_is_le c (pos (i + 1)) (omega (arith, high, low, beside i z e))));
       }))
@@ -136,7 +134,7 @@ module _ (o : Op) (b : IExpr) (compares : IsTrue (is_comparison o)) (ts : Store)
       subst (λ x. Shows (chosen i false x) o i z) (false_is_lt (pos i) (c +ℤ pos 1) (omega (arith, high, low, sum)))
       (record {
         seen = run_seen (holds_behind o) i (behind_is o (pos i) z compares (omega arith));
-        stop = elim (int_le (pos (2 ^ 40)) (pos (i + 1))) as (λ x. (ended x false (run (holds_behind o))).stop ≡ false) [ | true ↦ refl | false ↦ refl ];
+        stop = elim (int_le (pos (2 ^ 40)) (pos (i + 1))) as (λ x. (ended x false (run (holds_behind o))).stop ≡ false) [ true ↦ refl | false ↦ refl ];
         ends_in = λ inside e. absurd (omega (arith, le-true (pos (2 ^ 40)) (pos (i + 1)) (or_not (int_le (pos (2 ^ 40)) (pos (i + 1))) e), inside));
         ends_out = λ inside e. absurd (omega (arith, beside i z e, behind));
       }))
@@ -145,7 +143,7 @@ module _ (o : Op) (b : IExpr) (compares : IsTrue (is_comparison o)) (ts : Store)
       subst (λ x. Shows (chosen i false x) o i z) (true_is_lt (pos i) (c +ℤ pos 1) (omega (arith, high, low, sum)))
       (record {
         seen = run_seen (holds_at o) i (ap (λ (x : ℤ). operate o x z) here ∙ at_is o z compares);
-        stop = elim (int_le (c +ℤ pos 1) (pos (i + 1))) as (λ x. (ended x false (run (holds_at o))).stop ≡ false) [ | true ↦ refl | false ↦ refl ];
+        stop = elim (int_le (c +ℤ pos 1) (pos (i + 1))) as (λ x. (ended x false (run (holds_at o))).stop ≡ false) [ true ↦ refl | false ↦ refl ];
         ends_in = λ inside e. inr (ap (λ (x : ℤ). x +ℤ pos 1) here);
         ends_out = λ inside e. ap (λ x. (ended x false (run (holds_at o))).ends) (sym (true_is_le (c +ℤ pos 1) (pos (i + 1)) (omega (arith, high, low, sum))));
       }))
@@ -155,6 +153,7 @@ module _ (o : Op) (b : IExpr) (compares : IsTrue (is_comparison o)) (ts : Store)
       or_not : (x : Bool) → (x || false) ≡ true → x ≡ true
       or_not true e = refl
       or_not false e = e
+
       -- a break is at the bound or behind it
       beside : (m : ℕ) (y : ℤ) → (pos (m + 1) ≡ y) ⊎ (pos (m + 1) ≡ y +ℤ pos 1) → (up y ≤ m + 1 + down y) × (m + down y ≤ up y)
       beside m y (inl e) = (omega (arith, ap up e, ap down e), omega (arith, ap up e, ap down e))
@@ -204,13 +203,16 @@ module _ (o : Op) (b : IExpr) (compares : IsTrue (is_comparison o)) where
       let y = value ts ls (bounded b) in
       let y' = value ts ls (next (bounded b)) in
       let last : int_lt i (value ts ls (Num (pos (2 ^ 40)))) ≡ true = ap (int_lt i) (value_num ts ls (pos (2 ^ 40)))
-        ∙ sym (true_is_lt i (pos (2 ^ 40)) (omega (arith, le, lt_out i (pos hi) high))) in
+      ∙ sym (true_is_lt i (pos (2 ^ 40)) (omega (arith, le, lt_out i (pos hi) high))) in
       sound_phase anywhere ts ls first (second ∷ third ∷ []) served i
       (elim (int_lt i y) as (λ x. ((x ≡ true) × Unit {0}) ⊎ ((x ≡ false) × SoundWithin anywhere ts ls (Sequence (second ∷ third ∷ [])) served i)) [
         | true ↦ inl (refl, tt)
-        | false ↦ inr (refl, sound_phase anywhere ts ls second (third ∷ []) served i
-            (elim (int_lt i y') as (λ x. ((x ≡ true) × Unit {0}) ⊎ ((x ≡ false) × SoundWithin anywhere ts ls (Sequence (third ∷ [])) served i)) [
-              | true ↦ inl (refl, tt)
-              | false ↦ inr (refl, sound_phase anywhere ts ls third [] served i (inl (last, tt)))
-            ]))
+        | false ↦ inr (
+          refl,
+          sound_phase anywhere ts ls second (third ∷ []) served i
+              (elim (int_lt i y') as (λ x. ((x ≡ true) × Unit {0}) ⊎ ((x ≡ false) × SoundWithin anywhere ts ls (Sequence (third ∷ [])) served i)) [
+                | true ↦ inl (refl, tt)
+                | false ↦ inr (refl, sound_phase anywhere ts ls third [] served i (inl (last, tt)))
+              ]),
+        )
       ])

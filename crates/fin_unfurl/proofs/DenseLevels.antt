@@ -1,39 +1,25 @@
 -- The walk of a dense fibre: a position for each coordinate.
-use Rattle.std.proofs.Common.{◌≡◌, ℕ, ◌+◌, ◌-◌, ◌*◌, ◌<◌, ◌≤◌, ◌^◌, List, [], ◌∷◌, length, refl, sym, ap, ◌∙◌, subst, inl, inr, ◌⊎◌, ⊎_elim, ℤ, pos, ◌+ℤ◌, ◌≤ℤ◌, ◌<ℤ◌, Some, None, Bool, true, false, T, w64, arith}
-use Rattle.std.specs.Prelude.{slice_index, slice_index_or, slice_set, ◌||◌, ◌&&◌, nat_lt, nat_eq, int_lt, int_le, if◌then◌else◌, Option, is_some}
-use Rattle.std.proofs.lemmas.Bool.{cases_lt}
-use Rattle.std.proofs.lemmas.List.{get_or_past, get_or-set_same}
-use borrow.Author.Differences.{up, down, below_in, at_most_in, lt_out, le_out, lt-true}
+use Rattle.std.proofs.Common.{◌≡◌, ℕ, ◌+◌, ◌*◌, ◌<◌, ◌≤◌, ◌^◌, List, refl, ap, ◌∙◌, ℤ, pos, Some, true, false, arith}
+use Rattle.std.specs.Prelude.{slice_set}
+use Rattle.std.proofs.lemmas.List.{get_or-set_same}
 use Rattle.fin_base.specs.declared.terms.Op.TheVariants as op
-use Rattle.fin_base.specs.Words.{truth}
-use Rattle.std.specs.Int.{int_wrap}
-use Rattle.fin_tensor.specs.declared.part.Part.{Part}
 use Rattle.fin_tensor.specs.declared.part.Part.TheVariants as part
 use Rattle.std.proofs.lemmas.Nat.{mul-add-lt}
 use Rattle.std.proofs.Math.Nat.{mul_comm}
-use Rattle.std.proofs.Common.{◌*ℤ◌}
 use Rattle.fin_tensor.specs.Levels.{positions}
-use Rattle.fin_ir.specs.declared.expression.Table.TheVariants as table
 use Rattle.fin_ir.specs.declared.expression.IExpr.{IExpr}
 use Rattle.fin_ir.specs.declared.expression.IExpr.TheVariants.{Num, Local, Two}
 use Rattle.fin_ir.specs.Frozen.{Frozen}
-use Rattle.fin_ir.specs.Loads.{table_in, part_at}
-use Rattle.fin_ir.specs.Value.{is_off}
-use Rattle.fin_ir.proofs.Values.{value_num, value_local, value_pick}
-use Rattle.fin_looplet.specs.declared.looplet.Phase.{Phase}
-use Rattle.fin_looplet.specs.declared.looplet.Leaf.TheVariants.{Fill}
-use Rattle.fin_looplet.specs.declared.looplet.Looplet.TheVariants.{Run, Lookup, Sequence, Stepper}
-use Rattle.fin_looplet.specs.View.{Store, value, view, View, Sight, gap, leaf_sight, ended, plain, at_step}
-use Rattle.fin_looplet.specs.Sound.{Places, SoundWithin}
+use Rattle.fin_ir.specs.Loads.{part_at}
+use Rattle.fin_ir.proofs.Values.{value_num, value_local}
+use Rattle.fin_looplet.specs.View.{Store, value, view}
 use Rattle.fin_looplet.proofs.Exprs.{value_set}
-use Rattle.fin_looplet.proofs.Bridges.{view_phase, view_stepper, sound_phase, sound_stepper}
 use Rattle.fin_unfurl.specs.declared.fibre.Fibre.{Fibre}
-use Rattle.fin_unfurl.specs.Parts.{next, cell, begin, end, place, leaf}
+use Rattle.fin_unfurl.specs.Parts.{end}
 use Rattle.fin_unfurl.specs.Walks.{dense_place, dense_walk}
 use Rattle.fin_unfurl.proofs.Places.{Here, two_is, leaf_value}
-use Rattle.fin_unfurl.proofs.Small.{wrap_small, lt_yes, lt_no, le_yes, le_no, natural, sub_is}
-use Rattle.fin_unfurl.proofs.Keys.{key_some, key_none, held_yes, held_no}
-use Rattle.fin_unfurl.proofs.Shows.{shown, ShowsAt, sight_or}
+use Rattle.fin_unfurl.proofs.Small.{wrap_small}
+use Rattle.fin_unfurl.proofs.Shows.{ShowsAt, sight_or}
 
 at_most : {a b m : ℕ} → a ≡ b → a ≤ m → b ≤ m
 at_most e h = omega arith

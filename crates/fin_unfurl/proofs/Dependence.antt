@@ -1,19 +1,17 @@
 -- What the looplet of a fibre owns, and what it depends on.
-use Rattle.std.proofs.Common.{◌≡◌, ◌≢◌, ℕ, ◌+◌, List, [], ◌∷◌, sym, ap, ◌∙◌, subst, inl, inr, ◌⊎◌, ⊎_elim, Bool, true, false, Some, None, Option, ℤ, pos}
-use Rattle.std.specs.Prelude.{◌||◌, nat_eq, if◌then◌else◌}
+use Rattle.std.proofs.Common.{◌≡◌, ◌≢◌, ℕ, ◌+◌, [], ◌∷◌, sym, ap, ◌∙◌, inl, inr, ◌⊎◌, ⊎_elim, Bool, true, false, Some, None, Option, pos}
+use Rattle.std.specs.Prelude.{if◌then◌else◌}
 use Rattle.fin_base.specs.declared.terms.Op.TheVariants as op
 use Rattle.fin_tensor.specs.declared.format.Level.{Level}
 use Rattle.fin_tensor.specs.declared.format.Level.TheVariants as level
 use Rattle.fin_ir.specs.declared.expression.Table.{Table}
 use Rattle.fin_ir.specs.declared.expression.Table.TheVariants as table
 use Rattle.fin_ir.specs.declared.expression.IExpr.{IExpr}
-use Rattle.fin_ir.specs.declared.expression.IExpr.TheVariants.{Num, Local, Two, Pick, Cell, Seek, Val}
+use Rattle.fin_ir.specs.declared.expression.IExpr.TheVariants.{Num, Local, Two, Pick}
 use Rattle.fin_ir.proofs.Nodes.{of_cell, of_seek, of_pick, of_val}
 use Rattle.fin_tensor.proofs.Pieces.{or_cases}
 use Rattle.fin_looplet.specs.declared.looplet.Leaf.TheVariants.{Fill}
-use Rattle.fin_looplet.specs.declared.looplet.Looplet.{Looplet}
-use Rattle.fin_looplet.specs.declared.looplet.Looplet.TheVariants.{Run, Lookup, Sequence, Stepper, Switch}
-use Rattle.fin_looplet.specs.declared.looplet.Phase.{Phase}
+use Rattle.fin_looplet.specs.declared.looplet.Looplet.TheVariants.{Run, Sequence, Stepper, Switch}
 use Rattle.fin_looplet.specs.declared.looplet.Case.{Case}
 use Rattle.fin_looplet.specs.Names.{Names, names_step, LeafNames}
 use Rattle.fin_looplet.specs.Locals.{Free, Owns}
@@ -121,7 +119,7 @@ module _ (f : Fibre) (e : IExpr) (x : ℕ) where
       (λ r. ⊎_elim
       (λ (n : Names x (list_stop f (Two op.Sub (end f e) (Num (pos 1))))).
       ⊎_elim (λ (m : Names x (end f e)). end_names m) (λ (m : Names x (Num (pos 1))). absurd (names_num x (pos 1) m))
-        (names_two x op.Sub (end f e) (Num (pos 1)) (list_stop_names (Two op.Sub (end f e) (Num (pos 1))) n)))
+      (names_two x op.Sub (end f e) (Num (pos 1)) (list_stop_names (Two op.Sub (end f e) (Num (pos 1))) n)))
       (λ (n : Names x (Num (pos 0))). absurd (names_num x (pos 0) n)) r)
       (pick_names (has_places f e) (list_stop f (Two op.Sub (end f e) (Num (pos 1)))) (Num (pos 0)) k))
       (λ r. ⊎_elim
@@ -147,7 +145,7 @@ module _ (f : Fibre) (e : IExpr) (x : ℕ) where
       let n = leaf_names (Two op.Add (Two op.Mul e (Num (pos f.extent))) (Local (f.cursor + 1))) h.1 in
       ⊎_elim
       (λ (k : Names x (Two op.Mul e (Num (pos f.extent)))). ⊎_elim (λ (m : Names x e). m) (λ (m : Names x (Num (pos f.extent))). absurd (names_num x (pos f.extent) m))
-        (names_two x op.Mul e (Num (pos f.extent)) k))
+      (names_two x op.Mul e (Num (pos f.extent)) k))
       (λ (k : Names x (Local (f.cursor + 1))). absurd (h.0 (names_local x (f.cursor + 1) k)))
       (names_two x op.Add (Two op.Mul e (Num (pos f.extent))) (Local (f.cursor + 1)) n)
 
@@ -168,7 +166,7 @@ module _ (f : Fibre) (e : IExpr) (x : ℕ) where
       ⊎_elim (λ (n : Names x (begin f e)). begin_names n)
       (λ (n : Names x (Two op.Sub (Local (f.cursor + 1)) (start f e))).
       ⊎_elim (λ (m : Names x (Local (f.cursor + 1))). absurd (out (names_local x (f.cursor + 1) m))) (λ (m : Names x (start f e)). cell_names table.Start e m)
-        (names_two x op.Sub (Local (f.cursor + 1)) (start f e) n))
+      (names_two x op.Sub (Local (f.cursor + 1)) (start f e) n))
       (names_two x op.Add (begin f e) (Two op.Sub (Local (f.cursor + 1)) (start f e)) k)
 
   band_free : Free x (band_walk f e) → Names x e
@@ -199,6 +197,6 @@ module _ (f : Fibre) (e : IExpr) (x : ℕ) where
             (λ r. ⊎_elim (λ (k : Free x (walk_of kind f e)). inl (walk_free kind k))
             (λ (k : Free x (Switch (filling ∷ []))).
             ⊎_elim (λ (n : Names x (Num (pos 1))). absurd (names_num x (pos 1) n)) (λ s. ⊎_elim (λ (n : ⊥). absurd n) (λ (n : Free x (Switch [])). absurd (free_no_case x n)) s)
-              (from_free_case x filling [] k)) r)
+            (from_free_case x filling [] k)) r)
             (from_free_case x walks (filling ∷ []) h))
       ]

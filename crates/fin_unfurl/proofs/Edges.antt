@@ -1,7 +1,7 @@
 -- A shifted looplet, with an edge and without one.
 use Rattle.std.proofs.Common.{◌≡◌, ℕ, ◌+◌, ◌-◌, ◌<◌, ◌≤◌, ◌^◌, List, [], ◌∷◌, refl, sym, ap, ◌∙◌, subst, inl, inr, ◌⊎◌, ⊎_elim, Bool, true, false, T, Some, None, ℤ, pos, negsuc, neg_ℤ, ◌+ℤ◌, ◌-ℤ◌, ◌≤ℤ◌, ◌<ℤ◌, w64, arith}
 use Rattle.std.specs.Prelude.{int_lt, int_le, ◌||◌, ◌&&◌, if◌then◌else◌, ◌↔◌, Option, IfSome}
-use Rattle.std.specs.Int.{int_wrap, int_min, int_max}
+use Rattle.std.specs.Int.{int_min, int_max}
 use Rattle.std.proofs.lemmas.Bool.{cases_lt}
 use Rattle.std.proofs.lemmas.Int.{int_wrap_fits, int_min_is, int_max_is}
 use borrow.Author.Differences.{up, down, same_in, sum_is_lem, neg_is, lt_out, le_out, below_in, at_most_in, true_is_lt, false_is_lt, true_is_le, false_is_le, le-true, fits_in}
@@ -16,7 +16,7 @@ use Rattle.fin_looplet.specs.Sound.{Places, anywhere, SoundWithin, SoundIn}
 use Rattle.fin_looplet.proofs.Bridges.{view_phase, view_shift, sound_phase, sound_shift}
 use Rattle.fin_looplet.proofs.Frame.{sound_less}
 use Rattle.fin_unfurl.specs.Shifts.{near, outside, boxed, edged, is_inside, MovesLeaves, MovesBreaks, MovesStops, KeepsSound, ShiftsLeaves, ShiftsBreaks, ShiftsStops, ShiftsSound, shift_of}
-use Rattle.fin_unfurl.proofs.Small.{lt_yes, le_no, natural, sub_is}
+use Rattle.fin_unfurl.proofs.Small.{lt_yes, natural, sub_is}
 use Rattle.fin_unfurl.proofs.Places.{two_is}
 
 sub_of : (a b : ℤ) → up (a -ℤ b) + down a + up b ≡ down (a -ℤ b) + up a + down b
@@ -59,11 +59,13 @@ module _ (child : Looplet) (by : IExpr) where
   pub keeps_sound : KeepsSound child by (Shift by child)
   keeps_sound ts ls lo hi h i low high =
       let b = value ts ls by in
-      sound_shift anywhere ts ls by child (λ j. j <ℤ (hi +ℤ b)) i (tt,
+      sound_shift anywhere ts ls by child (λ j. j <ℤ (hi +ℤ b)) i (
+        tt,
         sound_less anywhere anywhere (λ j r. r) ts ls child (λ j. j <ℤ hi) (λ j. (j +ℤ b) <ℤ (hi +ℤ b)) (i -ℤ b)
-        (λ j q. below_in j hi (omega (arith, lt_out (j +ℤ b) (hi +ℤ b) q, sum_is_lem j b, sum_is_lem hi b)))
-        (h (i -ℤ b) (at_most_in lo (i -ℤ b) (omega (arith, sub_of i b, sum_is_lem lo b, le_out (lo +ℤ b) i low)))
-          (below_in (i -ℤ b) hi (omega (arith, sub_of i b, sum_is_lem hi b, lt_out i (hi +ℤ b) high)))))
+            (λ j q. below_in j hi (omega (arith, lt_out (j +ℤ b) (hi +ℤ b) q, sum_is_lem j b, sum_is_lem hi b)))
+            (h (i -ℤ b) (at_most_in lo (i -ℤ b) (omega (arith, sub_of i b, sum_is_lem lo b, le_out (lo +ℤ b) i low)))
+            (below_in (i -ℤ b) hi (omega (arith, sub_of i b, sum_is_lem hi b, lt_out i (hi +ℤ b) high)))),
+      )
 
 -- ---- with an edge
 
@@ -78,7 +80,7 @@ module _ (child : Looplet) (by : IExpr) (n : ℕ) (fill : ℤ) (small : n ≤ 2 
   stop_is =
       two_is ts ls op.Add (near by) (Num (pos n)) c (pos n)
       (two_is ts ls op.Max (Two op.Min by (Num (pos (2 ^ 40)))) (Num (negsuc (2 ^ 41))) (int_min z (pos (2 ^ 40))) (negsuc (2 ^ 41))
-        (two_is ts ls op.Min by (Num (pos (2 ^ 40))) z (pos (2 ^ 40)) refl (value_num ts ls (pos (2 ^ 40)))) (value_num ts ls (negsuc (2 ^ 41))))
+      (two_is ts ls op.Min by (Num (pos (2 ^ 40))) z (pos (2 ^ 40)) refl (value_num ts ls (pos (2 ^ 40)))) (value_num ts ls (negsuc (2 ^ 41))))
       (value_num ts ls (pos n))
       ∙ int_wrap_fits w64 (c +ℤ pos n) (fits_in w64 (c +ℤ pos n) (omega (arith, sum_is_lem c (pos n), int_max_is (int_min z (pos (2 ^ 40))) (negsuc (2 ^ 41)), int_min_is z (pos (2 ^ 40)), small)))
 
@@ -100,7 +102,7 @@ module _ (child : Looplet) (by : IExpr) (n : ℕ) (fill : ℤ) (small : n ≤ 2 
       (view_phase ts ls second (third ∷ []) end (pos i)
       ∙ ap (λ (x : ℤ). if int_lt (pos i) x then ended (int_le x (pos (i + 1))) false (view ts ls (Shift by child) x (pos i)) else view ts ls (Sequence (third ∷ [])) end (pos i)) stop_is
       ∙ ap (λ (v : View). if int_lt (pos i) (c +ℤ pos n) then ended (int_le (c +ℤ pos n) (pos (i + 1))) false v else view ts ls (Sequence (third ∷ [])) end (pos i))
-        (view_shift ts ls by child (c +ℤ pos n) (pos i))
+      (view_shift ts ls by child (c +ℤ pos n) (pos i))
       ∙ ap (λ (v : View). if int_lt (pos i) (c +ℤ pos n) then ended (int_le (c +ℤ pos n) (pos (i + 1))) false (view ts ls child ((c +ℤ pos n) -ℤ z) (pos i -ℤ z)) else v)
       (view_phase ts ls third [] end (pos i)
       ∙ ap (λ (x : ℤ). if int_lt (pos i) x then ended (int_le x (pos (i + 1))) false filled else view ts ls (Sequence []) end (pos i)) (value_num ts ls (pos (2 ^ 40)))
@@ -136,9 +138,9 @@ module _ (child : Looplet) (by : IExpr) (n : ℕ) (fill : ℤ) (small : n ≤ 2 
       edged_view i end lt
       ∙ ap (λ x. chosen i x (int_lt (pos i) (c +ℤ pos n))) (sym (false_is_lt (pos i) z (omega (arith, h))))
       ∙ ap (λ (y : ℤ). if int_lt (pos i) (y +ℤ pos n) then ended (int_le (y +ℤ pos n) (pos (i + 1))) false (view ts ls child ((y +ℤ pos n) -ℤ z) (pos i -ℤ z)) else ended
-        (int_le (pos (2 ^ 40)) (pos (i + 1))) false filled) same
+      (int_le (pos (2 ^ 40)) (pos (i + 1))) false filled) same
       ∙ ap (λ x. if x then ended (int_le (z +ℤ pos n) (pos (i + 1))) false (view ts ls child ((z +ℤ pos n) -ℤ z) (pos i -ℤ z)) else ended (int_le (pos (2 ^ 40)) (pos (i + 1))) false filled)
-        (sym (true_is_lt (pos i) (z +ℤ pos n) (omega (arith, h, sum_is_lem z (pos n)))))
+      (sym (true_is_lt (pos i) (z +ℤ pos n) (omega (arith, h, sum_is_lem z (pos n)))))
       ∙ ap (λ (y : ℤ). ended (int_le (z +ℤ pos n) (pos (i + 1))) false (view ts ls child y (pos i -ℤ z))) whole
 
   view_behind : (i : ℕ) (end : ℤ) → i < 2 ^ 40 → Behind i → view ts ls (edged child by n fill) end (pos i) ≡ ended (int_le (pos (2 ^ 40)) (pos (i + 1))) false filled
@@ -146,10 +148,10 @@ module _ (child : Looplet) (by : IExpr) (n : ℕ) (fill : ℤ) (small : n ≤ 2 
       edged_view i end lt
       ∙ ap (λ x. chosen i x (int_lt (pos i) (c +ℤ pos n))) (sym (false_is_lt (pos i) z (omega (arith, h))))
       ∙ ap (chosen i false)
-        (sym (false_is_lt (pos i) (c +ℤ pos n) (omega (arith, h, small, sum_is_lem c (pos n), int_max_is (int_min z (pos (2 ^ 40))) (negsuc (2 ^ 41)), int_min_is z (pos (2 ^ 40))))))
+      (sym (false_is_lt (pos i) (c +ℤ pos n) (omega (arith, h, small, sum_is_lem c (pos n), int_max_is (int_min z (pos (2 ^ 40))) (negsuc (2 ^ 41)), int_min_is z (pos (2 ^ 40))))))
 
   pub edges_leaves : (end : ℤ) (i : ℕ) → i < 2 ^ 40
-    → (view ts ls (edged child by n fill) end (pos i)).seen ≡ (if is_inside z n (pos i) then (view ts ls child (pos n) (pos i -ℤ z)).seen else record { sight = gap fill; varies = false })
+      → (view ts ls (edged child by n fill) end (pos i)).seen ≡ (if is_inside z n (pos i) then (view ts ls child (pos n) (pos i -ℤ z)).seen else record { sight = gap fill; varies = false })
   edges_leaves end i lt =
       let inner = (view ts ls child (pos n) (pos i -ℤ z)).seen in
       let choose : Bool → Bool → Seen = λ x y. if x && y then inner else record { sight = gap fill; varies = false } in
@@ -157,9 +159,9 @@ module _ (child : Looplet) (by : IExpr) (n : ℕ) (fill : ℤ) (small : n ≤ 2 
       (λ (h : Before i). ap (λ (v : View). v.seen) (view_before i end lt h) ∙ ap (λ x. choose x (int_lt (pos i) (z +ℤ pos n))) (false_is_le z (pos i) (omega (arith, h))))
       (λ r. ⊎_elim
       (λ (h : Inside i). ap (λ (v : View). v.seen) (view_inside i end lt h) ∙ ap (choose true) (true_is_lt (pos i) (z +ℤ pos n) (omega (arith, h, sum_is_lem z (pos n))))
-        ∙ ap (λ x. choose x (int_lt (pos i) (z +ℤ pos n))) (true_is_le z (pos i) (omega (arith, h))))
+      ∙ ap (λ x. choose x (int_lt (pos i) (z +ℤ pos n))) (true_is_le z (pos i) (omega (arith, h))))
       (λ (h : Behind i). ap (λ (v : View). v.seen) (view_behind i end lt h) ∙ ap (choose true) (false_is_lt (pos i) (z +ℤ pos n) (omega (arith, h, sum_is_lem z (pos n))))
-        ∙ ap (λ x. choose x (int_lt (pos i) (z +ℤ pos n))) (true_is_le z (pos i) (omega (arith, h))))
+      ∙ ap (λ x. choose x (int_lt (pos i) (z +ℤ pos n))) (true_is_le z (pos i) (omega (arith, h))))
       r) (where_is i)
 
   -- ---- at the coordinate before a number
@@ -211,7 +213,7 @@ module _ (child : Looplet) (by : IExpr) (n : ℕ) (fill : ℤ) (small : n ≤ 2 
       (λ q. ⊎_elim
       (λ (e : pos (m + 1) ≡ z +ℤ pos n). (omega (arith, ap up e, ap down e, sum), omega (arith, ap up e, ap down e, sum)))
       (λ (e : IsBreak ts ls child (pos 0) (pos n) (pos (m + 1) -ℤ z)).
-        (omega (arith, lt_out (pos 0) (pos (m + 1) -ℤ z) e.after, sub), omega (arith, lt_out (pos (m + 1) -ℤ z) (pos n) e.before, sub)))
+      (omega (arith, lt_out (pos 0) (pos (m + 1) -ℤ z) e.after, sub), omega (arith, lt_out (pos (m + 1) -ℤ z) (pos n) e.before, sub)))
       q) r in
       ⊎_elim
       (λ (h : Before m). ap (λ (v : View). v.ends) (view_before m end (omega arith) h) ∙ ap (λ x. x || false) (sym (true_is_le z (pos (m + 1)) (omega (arith, within)))))
@@ -273,7 +275,8 @@ module _ (child : Looplet) (by : IExpr) (n : ℕ) (fill : ℤ) (small : n ≤ 2 
         below_in z (pos (m + 1)) (omega (arith, h)),
         at_most_in (pos (m + 1)) (z +ℤ pos n) (omega (arith, h, sum)),
         ap (λ (w : ℤ). (view ts ls child (pos n) w).stop) (minus_one m) ∙ sym (no_walker (int_le (z +ℤ pos n) (pos (m + 1))) (view ts ls child (pos n) (pos m -ℤ z)).stop)
-          ∙ ap (λ (v : View). v.stop) (sym (view_inside m end lt h)) ∙ e))
+            ∙ ap (λ (v : View). v.stop) (sym (view_inside m end lt h)) ∙ e,
+      ))
       (λ (h : Behind m). absurd (subst T (sym (sym (no_walker (int_le (pos (2 ^ 40)) (pos (m + 1))) false) ∙ ap (λ (v : View). v.stop) (sym (view_behind m end lt h)) ∙ e)) tt))
       r) (where_is m)
 
@@ -316,22 +319,33 @@ module _ (child : Looplet) (by : IExpr) (n : ℕ) (fill : ℤ) (small : n ≤ 2 
       let sum = sum_is_lem z (pos n) in
       let stop = value ts ls (Two op.Add (near by) (Num (pos n))) in
       let last : SoundWithin anywhere ts ls (Sequence (third ∷ [])) served (pos m) = sound_phase anywhere ts ls third [] served (pos m)
-        (inl (ap (int_lt (pos m)) (value_num ts ls (pos (2 ^ 40))) ∙ lt_yes m (2 ^ 40) lt, tt)) in
+      (inl (ap (int_lt (pos m)) (value_num ts ls (pos (2 ^ 40))) ∙ lt_yes m (2 ^ 40) lt, tt)) in
       ⊎_elim
       (λ (w : Before m). sound_phase anywhere ts ls first (second ∷ third ∷ []) served (pos m) (inl (sym (true_is_lt (pos m) z (omega (arith, w))), tt)))
       (λ r. ⊎_elim
       (λ (w : Inside m).
       let to : stop ≡ z +ℤ pos n = stop_is ∙ ap (λ (y : ℤ). y +ℤ pos n) (c_is m lt w) in
-      sound_phase anywhere ts ls first (second ∷ third ∷ []) served (pos m) (inr (sym (false_is_lt (pos m) z (omega (arith, w))),
-        sound_phase anywhere ts ls second (third ∷ []) served (pos m) (inl (ap (int_lt (pos m)) to ∙ sym (true_is_lt (pos m) (z +ℤ pos n) (omega (arith, w, sum))),
-          sound_shift anywhere ts ls by child (λ j. served j × (j <ℤ stop)) (pos m) (tt,
+      sound_phase anywhere ts ls first (second ∷ third ∷ []) served (pos m) (inr (
+        sym (false_is_lt (pos m) z (omega (arith, w))),
+        sound_phase anywhere ts ls second (third ∷ []) served (pos m) (inl (
+          ap (int_lt (pos m)) to ∙ sym (true_is_lt (pos m) (z +ℤ pos n) (omega (arith, w, sum))),
+          sound_shift anywhere ts ls by child (λ j. served j × (j <ℤ stop)) (pos m) (
+            tt,
             sound_less anywhere anywhere (λ j x. x) ts ls child (λ j. j <ℤ pos n) (λ j. served (j +ℤ z) × ((j +ℤ z) <ℤ stop)) (pos m -ℤ z)
-            (λ j q. below_in j (pos n) (omega (arith, lt_out (j +ℤ z) (z +ℤ pos n) (subst (λ (y : ℤ). (j +ℤ z) <ℤ y) to q.1), sum_is_lem j z, sum)))
-            (h (pos m -ℤ z) (at_most_in (pos 0) (pos m -ℤ z) (omega (arith, w, sub_of (pos m) z))) (below_in (pos m -ℤ z) (pos n) (omega (arith, w, sub_of (pos m) z))))))))))
+                (λ j q. below_in j (pos n) (omega (arith, lt_out (j +ℤ z) (z +ℤ pos n) (subst (λ (y : ℤ). (j +ℤ z) <ℤ y) to q.1), sum_is_lem j z, sum)))
+                (h (pos m -ℤ z) (at_most_in (pos 0) (pos m -ℤ z) (omega (arith, w, sub_of (pos m) z))) (below_in (pos m -ℤ z) (pos n) (omega (arith, w, sub_of (pos m) z)))),
+          ),
+        )),
+      )))
       (λ (w : Behind m).
-      sound_phase anywhere ts ls first (second ∷ third ∷ []) served (pos m) (inr (sym (false_is_lt (pos m) z (omega (arith, w))),
-        sound_phase anywhere ts ls second (third ∷ []) served (pos m) (inr (ap (int_lt (pos m)) stop_is
-          ∙ sym (false_is_lt (pos m) (c +ℤ pos n) (omega (arith, w, small, sum_is_lem c (pos n), int_max_is (int_min z (pos (2 ^ 40))) (negsuc (2 ^ 41)), int_min_is z (pos (2 ^ 40))))), last)))))
+      sound_phase anywhere ts ls first (second ∷ third ∷ []) served (pos m) (inr (
+        sym (false_is_lt (pos m) z (omega (arith, w))),
+        sound_phase anywhere ts ls second (third ∷ []) served (pos m) (inr (
+          ap (int_lt (pos m)) stop_is
+              ∙ sym (false_is_lt (pos m) (c +ℤ pos n) (omega (arith, w, small, sum_is_lem c (pos n), int_max_is (int_min z (pos (2 ^ 40))) (negsuc (2 ^ 41)), int_min_is z (pos (2 ^ 40))))),
+          last,
+        )),
+      )))
       r) (where_is m)
 
   pub edges_sound : SoundIn ts ls child (pos 0) (pos n) → (lo hi : ℕ) → hi ≤ 2 ^ 40 → SoundIn ts ls (edged child by n fill) (pos lo) (pos hi)

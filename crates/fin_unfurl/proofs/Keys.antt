@@ -1,5 +1,5 @@
 -- Whether a number is found, by the first place that may hold it.
-use Rattle.std.proofs.Common.{◌≡◌, ◌≢◌, ℕ, ◌+◌, ◌-◌, ◌<◌, ◌≤◌, List, refl, sym, ap, ◌∙◌, ◌⊎◌, inl, inr, ⊎_elim, Some, None, Bool, true, false, arith}
+use Rattle.std.proofs.Common.{◌≡◌, ◌≢◌, ℕ, ◌-◌, ◌<◌, ◌≤◌, List, refl, ap, ◌∙◌, ◌⊎◌, ⊎_elim, Some, None, true, false, arith}
 use Rattle.std.specs.Prelude.{slice_index, nat_lt, nat_eq, ◌&&◌, is_some, if◌then◌else◌}
 use Rattle.std.proofs.lemmas.Bool.Decides.{nat_tests}
 use Rattle.fin_tensor.specs.Levels.{key_in, first_from}
@@ -18,7 +18,7 @@ key_none xs from to x r is out =
     (λ (h : to ≤ r). let a : nat_lt r to ≡ false = grind (arith, nat_tests) in rw a refl)
     (λ (h : slice_index xs r ≢ x).
     let b : nat_eq (slice_index xs r) x ≡ false = grind (arith, nat_tests) in
-    elim (nat_lt r to) as (λ c. (if c && nat_eq (slice_index xs r) x then Some r else None) ≡ None) [ | true ↦ rw b refl | false ↦ refl ])
+    elim (nat_lt r to) as (λ c. (if c && nat_eq (slice_index xs r) x then Some r else None) ≡ None) [ true ↦ rw b refl | false ↦ refl ])
     out
 
 pub held_yes : (xs : List ℕ) (from to x r : ℕ) → key_in xs from to x ≡ Some r → holds_number xs from to x ≡ true

@@ -1,6 +1,6 @@
 -- The walk of a list: spikes up to the last stored coordinate, and then the fill.
-use Rattle.std.proofs.Common.{◌≡◌, ℕ, ◌+◌, ◌-◌, ◌<◌, ◌≤◌, ◌^◌, List, [], ◌∷◌, length, refl, sym, ap, ◌∙◌, subst, inl, inr, ◌⊎◌, ⊎_elim, ℤ, pos, ◌+ℤ◌, ◌≤ℤ◌, ◌<ℤ◌, Some, None, Bool, true, false, T, w64, arith}
-use Rattle.std.specs.Prelude.{slice_index, slice_index_or, slice_set, ◌||◌, ◌&&◌, int_lt, int_le, if◌then◌else◌, Option}
+use Rattle.std.proofs.Common.{◌≡◌, ℕ, ◌+◌, ◌-◌, ◌<◌, ◌≤◌, ◌^◌, List, [], ◌∷◌, length, refl, sym, ap, ◌∙◌, subst, inl, inr, ◌⊎◌, ⊎_elim, ℤ, pos, ◌+ℤ◌, ◌<ℤ◌, None, Bool, true, false, T, w64, arith}
+use Rattle.std.specs.Prelude.{slice_index, slice_set, ◌||◌, ◌&&◌, int_lt, int_le, if◌then◌else◌}
 use Rattle.std.proofs.lemmas.Bool.{cases_lt}
 use Rattle.std.proofs.lemmas.List.{get_or_past}
 use borrow.Author.Differences.{up, down, below_in, at_most_in, lt_out, le_out, lt-true}
@@ -16,22 +16,20 @@ use Rattle.fin_ir.specs.declared.expression.IExpr.TheVariants.{Num, Local, Two}
 use Rattle.fin_ir.specs.Frozen.{Frozen}
 use Rattle.fin_ir.specs.Loads.{table_in, part_at}
 use Rattle.fin_ir.specs.Value.{is_off}
-use Rattle.fin_ir.proofs.Values.{value_num, value_local, value_pick}
+use Rattle.fin_ir.proofs.Values.{value_num, value_pick}
 use Rattle.fin_base.specs.Words.{truth}
 use Rattle.std.specs.Int.{int_wrap}
 use Rattle.fin_looplet.specs.declared.looplet.Phase.{Phase}
 use Rattle.fin_unfurl.proofs.Phases.{rest_shows, rest_sound, places_value}
-use Rattle.fin_looplet.specs.declared.looplet.Leaf.TheVariants.{Fill}
-use Rattle.fin_looplet.specs.declared.looplet.Looplet.TheVariants.{Run, Spike, Sequence, Stepper}
+use Rattle.fin_looplet.specs.declared.looplet.Looplet.TheVariants.{Sequence, Stepper}
 use Rattle.fin_looplet.specs.View.{Store, value, view, View, Sight, gap, leaf_sight, ended, plain, at_step}
 use Rattle.fin_looplet.specs.Sound.{Places, SoundWithin}
-use Rattle.fin_looplet.proofs.Exprs.{value_set}
-use Rattle.fin_looplet.proofs.Bridges.{view_phase, view_no_phase, view_stepper, sound_phase, sound_stepper}
+use Rattle.fin_looplet.proofs.Bridges.{view_phase, view_stepper, sound_phase, sound_stepper}
 use Rattle.fin_unfurl.specs.declared.fibre.Fibre.{Fibre}
-use Rattle.fin_unfurl.specs.Parts.{next, cell, begin, end, place, leaf}
+use Rattle.fin_unfurl.specs.Parts.{cell, end, place, leaf}
 use Rattle.fin_unfurl.specs.Walks.{rest, has_places, list_stop, list_end, list_walker, list_walk}
 use Rattle.fin_unfurl.proofs.Small.{wrap_small, lt_yes, lt_no, le_yes, le_no, natural, sub_is}
-use Rattle.fin_unfurl.proofs.Places.{Here, two_is, next_value, cell_value, begin_value, end_value, leaf_value, place_at, cursor_value}
+use Rattle.fin_unfurl.proofs.Places.{Here, two_is, next_value, cell_value, end_value, leaf_value, place_at, cursor_value}
 use Rattle.fin_unfurl.proofs.Keys.{key_some, key_none, held_yes, held_no}
 use Rattle.fin_unfurl.proofs.Shows.{shown, ShowsAt, sight_or}
 
@@ -118,13 +116,13 @@ module _ (ts : Store) (ls : List ℤ) (f : Fibre) (e : IExpr) (s : Frozen) (p : 
   spike_at : (m k : ℕ) → k ≡ m → spike m (pos (k + 1)) ≡ shown (tail m) false true true
   spike_at m k is =
       ap (λ b. ended b true (if int_lt (pos (m + 1)) (pos (k + 1)) then ended (int_le (pos (k + 1)) (pos (m + 2))) false (plain false (gap f.fill)) else plain false (tail m)))
-        (le_yes (k + 1) (m + 1) (omega arith))
+      (le_yes (k + 1) (m + 1) (omega arith))
       ∙ ap (λ b. ended true true (if b then ended (int_le (pos (k + 1)) (pos (m + 2))) false (plain false (gap f.fill)) else plain false (tail m))) (lt_no (m + 1) (k + 1) (omega arith))
 
   spike_before : (m k : ℕ) (near : Bool) → m < k → int_le (pos (k + 1)) (pos (m + 2)) ≡ near → spike m (pos (k + 1)) ≡ shown (gap f.fill) false (near || false) ((near && false) || false)
   spike_before m k near lt is =
       ap (λ b. ended b true (if int_lt (pos (m + 1)) (pos (k + 1)) then ended (int_le (pos (k + 1)) (pos (m + 2))) false (plain false (gap f.fill)) else plain false (tail m)))
-        (le_no (k + 1) (m + 1) (omega arith))
+      (le_no (k + 1) (m + 1) (omega arith))
       ∙ ap (λ b. ended false true (if b then ended (int_le (pos (k + 1)) (pos (m + 2))) false (plain false (gap f.fill)) else plain false (tail m))) (lt_yes (m + 1) (k + 1) (omega arith))
       ∙ ap (λ b. ended false true (ended b false (plain false (gap f.fill)))) is
 
@@ -143,9 +141,9 @@ module _ (ts : Store) (ls : List ℤ) (f : Fibre) (e : IExpr) (s : Frozen) (p : 
       let no = held_no idx from to m out in
       elim near as (λ b. stored (m + 1) ≡ b → shown (gap f.fill) false (b || false) ((b && false) || false) ≡ view_of m) [
         | true ↦ (λ x. ap (λ o. shown (sight_or f s o) false true false) (sym out) ∙ ap (λ b. shown (sight_or f s (key_in idx from to m)) false (b || true) b) (sym no)
-          ∙ ap (λ b. shown (sight_or f s (key_in idx from to m)) false (stored m || b) (stored m)) (sym x))
+            ∙ ap (λ b. shown (sight_or f s (key_in idx from to m)) false (stored m || b) (stored m)) (sym x))
         | false ↦ (λ x. ap (λ o. shown (sight_or f s o) false false false) (sym out) ∙ ap (λ b. shown (sight_or f s (key_in idx from to m)) false (b || false) b) (sym no)
-          ∙ ap (λ b. shown (sight_or f s (key_in idx from to m)) false (stored m || b) (stored m)) (sym x))
+            ∙ ap (λ b. shown (sight_or f s (key_in idx from to m)) false (stored m || b) (stored m)) (sym x))
       ] is
 
   walker_view : (m : ℕ) (end : ℤ) → Under m → view ts ls (Stepper (list_walker f e)) end (pos m) ≡ view_of m
@@ -172,11 +170,14 @@ module _ (ts : Store) (ls : List ℤ) (f : Fibre) (e : IExpr) (s : Frozen) (p : 
       let k = slice_index idx (key m) in
       sound_stepper bound ts ls (list_walker f e) served (pos m) (
         subst (λ (z : ℤ). pos m <ℤ z) (sym (stop m)) (below_in (pos m) (pos (k + 1)) (omega (arith, over m u))),
-        ((λ j a b c.
-            let at = natural j (at_most_in (pos 0) j (omega (arith, le_out (pos m) j a))) in
-            let lt = subst (λ (z : ℤ). j <ℤ z) (stop m) c in
-            let same = stays m at.0 u (omega (arith, le_out (pos m) j a, ap up at.1, ap down at.1)) (omega (arith, lt_out j (pos (k + 1)) lt, ap up at.1, ap down at.1)) in
-            ap (λ (z : ℤ). value ts (slice_set ls (f.cursor + 1) z) (place f e)) at.1 ∙ sought at.0 ∙ ap pos same ∙ sym (sought m)), tt),
+        (
+          (λ j a b c.
+              let at = natural j (at_most_in (pos 0) j (omega (arith, le_out (pos m) j a))) in
+              let lt = subst (λ (z : ℤ). j <ℤ z) (stop m) c in
+              let same = stays m at.0 u (omega (arith, le_out (pos m) j a, ap up at.1, ap down at.1)) (omega (arith, lt_out j (pos (k + 1)) lt, ap up at.1, ap down at.1)) in
+              ap (λ (z : ℤ). value ts (slice_set ls (f.cursor + 1) z) (place f e)) at.1 ∙ sought at.0 ∙ ap pos same ∙ sym (sought m)),
+          tt,
+        ),
       )
 
   -- ---- where the stored coordinates end
@@ -235,14 +236,14 @@ module _ (ts : Store) (ls : List ℤ) (f : Fibre) (e : IExpr) (s : Frozen) (p : 
       view_phase ts ls spikes (rest f ∷ []) end (pos m)
       ∙ ap (λ (z : ℤ). if int_lt (pos m) z then ended (int_le z (pos (m + 1))) false (view ts ls (Stepper (list_walker f e)) z (pos m)) else view ts ls (Sequence (rest f ∷ [])) end (pos m)) is
       ∙ ap (λ b. if b then ended (int_le (pos (l + 1)) (pos (m + 1))) false (view ts ls (Stepper (list_walker f e)) (pos (l + 1)) (pos m)) else view ts ls (Sequence (rest f ∷ [])) end (pos m))
-        (lt_yes m (l + 1) (omega (arith, u.1)))
+      (lt_yes m (l + 1) (omega (arith, u.1)))
       ∙ ap (λ (v : View). ended (int_le (pos (l + 1)) (pos (m + 1))) false v) (walker_view m (pos (l + 1)) u) in
       subst (Shows m) (sym first_phase)
       (⊎_elim
       (λ (lt : m < l). subst (λ b. Shows m (ended b false (view_of m))) (sym (le_no (l + 1) (m + 1) (omega arith))) (record { sight = refl; varies = refl; ends = λ _. refl; stop = λ x. x }))
       (λ (ge : l ≤ m).
       subst (λ b. Shows m (ended b false (view_of m))) (sym (le_yes (l + 1) (m + 1) (omega arith)))
-        (record { sight = refl; varies = refl; ends = λ _. ap (λ b. b || stored (m + 1)) (sym (last_held m u ge)); stop = λ x. x }))
+      (record { sight = refl; varies = refl; ends = λ _. ap (λ b. b || stored (m + 1)) (sym (last_held m u ge)); stop = λ x. x }))
       (cases_lt m l))
 
   past_shows : (m : ℕ) (end z : ℤ) → m < f.extent → value ts ls (list_end f e) ≡ z → int_lt (pos m) z ≡ false → (Under m → ⊥) → (Under (m + 1) → ⊥) → Shows m (view ts ls (list_walk f e) end (pos m))
@@ -252,7 +253,7 @@ module _ (ts : Store) (ls : List ℤ) (f : Fibre) (e : IExpr) (s : Frozen) (p : 
       let skip : view ts ls (list_walk f e) end (pos m) ≡ view ts ls (Sequence (rest f ∷ [])) end (pos m) =
       view_phase ts ls spikes (rest f ∷ []) end (pos m)
       ∙ ap (λ b. if b then ended (int_le (value ts ls (list_end f e)) (pos m +ℤ pos 1)) false (view ts ls (Stepper (list_walker f e)) (value ts ls (list_end f e)) (pos m)) else view ts ls
-        (Sequence (rest f ∷ [])) end (pos m))
+      (Sequence (rest f ∷ [])) end (pos m))
       (ap (int_lt (pos m)) is ∙ behind) in
       let r = rest_shows ts ls f m end lt in
       subst (Shows m) (sym skip) (record {
@@ -287,8 +288,11 @@ module _ (ts : Store) (ls : List ℤ) (f : Fibre) (e : IExpr) (s : Frozen) (p : 
       let z = value ts ls (list_end f e) in
       sound_phase bound ts ls spikes (rest f ∷ []) served (pos m)
       (elim (int_lt (pos m) z) as (λ b. int_lt (pos m) z ≡ b →
-          ((b ≡ true) × SoundWithin bound ts ls (Stepper (list_walker f e)) (λ j. served j × (j <ℤ z)) (pos m)) ⊎ ((b ≡ false) × SoundWithin bound ts ls (Sequence (rest f ∷ [])) served (pos m))) [
-        | true ↦ (λ is. inl (refl, walker_sound bound (λ j. served j × (j <ℤ z)) m
-            (λ j at j' same. served_under j' (subst (λ (y : ℤ). y <ℤ z) same at.1)) (served_under m (below_in (pos m) z (lt-true (pos m) z is)))))
+      ((b ≡ true) × SoundWithin bound ts ls (Stepper (list_walker f e)) (λ j. served j × (j <ℤ z)) (pos m)) ⊎ ((b ≡ false) × SoundWithin bound ts ls (Sequence (rest f ∷ [])) served (pos m))) [
+        | true ↦ (λ is. inl (
+          refl,
+          walker_sound bound (λ j. served j × (j <ℤ z)) m
+              (λ j at j' same. served_under j' (subst (λ (y : ℤ). y <ℤ z) same at.1)) (served_under m (below_in (pos m) z (lt-true (pos m) z is))),
+        ))
         | false ↦ (λ is. inr (refl, rest_sound bound ts ls f served m lt))
       ] refl)

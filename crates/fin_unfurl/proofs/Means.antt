@@ -1,5 +1,5 @@
 -- The unfurled looplet means the fibre.
-use Rattle.std.proofs.Common.{◌≡◌, ℕ, zero, suc, ◌+◌, ◌-◌, ◌<◌, ◌≤◌, List, length, refl, sym, ap, ◌∙◌, subst, Some, None, Bool, true, false, ℤ, pos, ◌+ℤ◌, ◌-ℤ◌, ◌≤ℤ◌, ◌<ℤ◌, arith}
+use Rattle.std.proofs.Common.{◌≡◌, ℕ, ◌+◌, ◌-◌, ◌<◌, ◌≤◌, List, length, refl, sym, ap, ◌∙◌, subst, Some, None, Bool, true, false, ℤ, pos, ◌+ℤ◌, ◌<ℤ◌, arith}
 use Rattle.std.specs.Prelude.{min, nat_eq, slice_index, slice_index_or, Option, if◌then◌else◌}
 use Rattle.std.specs.List.{filter, range_with_len}
 use borrow.Author.Differences.{up, down, lt_out, le_out, below_in, at_most_in}
@@ -9,7 +9,6 @@ use Rattle.fin_tensor.specs.declared.part.Part.{Part}
 use Rattle.fin_tensor.specs.declared.part.Part.TheVariants as part
 use Rattle.fin_tensor.specs.Levels.{IsAt, IsLevel, fibres, child_in}
 use Rattle.fin_tensor.specs.Pieces.{walked, holds_number, stored_length, ends_after}
-use Rattle.fin_tensor.specs.Pieces as fibre
 use Rattle.fin_tensor.proofs.ByLines.{valid_by_lines}
 use Rattle.fin_tensor.proofs.Fibres.{level_keys, level_runs}
 use Rattle.fin_tensor.proofs.Pieces.{ends_are_breaks, stored_are_few}
@@ -18,11 +17,11 @@ use Rattle.fin_ir.specs.Frozen.{Frozen}
 use Rattle.fin_ir.specs.Loads.{part_at}
 use Rattle.fin_ir.specs.Meaning.{span}
 use Rattle.fin_looplet.specs.declared.looplet.Looplet.{Looplet}
-use Rattle.fin_looplet.specs.View.{Store, value, view, View, Sight, gap, word, position, plain, stops, IsBreak}
+use Rattle.fin_looplet.specs.View.{Store, view, View, gap, word, position}
 use Rattle.fin_looplet.specs.Sound.{Places, anywhere, SoundWithin}
 use Rattle.fin_unfurl.specs.declared.fibre.Fibre.{Fibre}
 use Rattle.fin_unfurl.specs.Fibres.{Asked, IsApart, Stand, nowhere, at, IsPlaced, StandsAt, sight_of, sight_at, varies_at, BreaksAt, length_of, ShowsLeaves, ShowsVarying, ShowsBreaks, IsSound, HasFewStops, OwnsTwo, DependsOnPlace}
-use Rattle.fin_unfurl.specs.Walks.{walk_of, below_of, fibre_of, guarded, unfurled}
+use Rattle.fin_unfurl.specs.Walks.{walk_of, fibre_of, guarded, unfurled}
 use Rattle.fin_unfurl.proofs.Small.{natural, sub_is}
 use Rattle.fin_unfurl.proofs.Places.{Here, sight_below}
 use Rattle.fin_unfurl.proofs.Shows.{ShowsAt, sight_or}
@@ -70,13 +69,13 @@ module _ (a : Asked) (within : a.level < length a.format.levels) (apart : IsApar
     below_is s few (Some q) =
         let small : min (a.level + 1) 255 ≡ a.level + 1 = omega (arith, within, few) in
         elim (nat_eq (a.level + 1) (length a.format.levels)) as (λ b. sight_below a.tensor s.val (if b then None else Some (min (a.level + 1) 255)) q
-            ≡ (if b then word (slice_index_or s.val q (pos 0)) else position a.tensor (a.level + 1) (pos q))) [
+        ≡ (if b then word (slice_index_or s.val q (pos 0)) else position a.tensor (a.level + 1) (pos q))) [
           | true ↦ refl
           | false ↦ ap (λ (k : ℕ). position a.tensor k (pos q)) small
         ]
 
     shows : (stand : Stand) → StandsAt ts ls a stand → (m : ℕ) (end : ℤ) → m < a.extent
-      → ShowsAt (view ts ls made end (pos m)) (sight_at a stand m) (varies_at a stand m) (ends_of a stand m) (stops_of a stand m) (m + 1 < a.extent)
+        → ShowsAt (view ts ls made end (pos m)) (sight_at a stand m) (varies_at a stand m) (ends_of a stand m) (stops_of a stand m) (m + 1 < a.extent)
     shows nowhere off m end lt =
         subst (λ (v : View). ShowsAt v (gap a.format.fill) false false false (m + 1 < a.extent)) (sym (guarded_off ts ls (fibre_of a) a.there (walk_of kind (fibre_of a) a.place) end (pos m) off))
         (record { sight = refl; varies = refl; ends = λ _. refl; stop = λ x. x })
@@ -113,14 +112,14 @@ module _ (a : Asked) (within : a.level < length a.format.levels) (apart : IsApar
             let from = slice_index ptr p in
             let to = slice_index ptr (p + 1) in
             let weaker = filter_at_most (λ k. holds_number idx from to (lo + k)) (λ k. holds_number idx from to (k + lo)) 0 m
-              (λ k l u x. let e : lo + k ≡ k + lo = omega arith in subst (λ (y : ℕ). holds_number idx from to y ≡ true) e x) in
+            (λ k l u x. let e : lo + k ≡ k + lo = omega arith in subst (λ (y : ℕ). holds_number idx from to y ≡ true) e x) in
             omega (arith, weaker, stored_are_few idx from to lo 0 m (lines.0.rises p i.within))
         of_part (part.Runs ptr stop) i =
             let lines = level_runs i.kind a.extent i.count ptr stop i.level in
             let from = slice_index ptr p in
             let to = slice_index ptr (p + 1) in
             let weaker = filter_at_most (λ k. holds_number stop from to (lo + k + 1)) (λ k. holds_number stop from to (k + (lo + 1))) 0 m
-              (λ k l u x. let e : lo + k + 1 ≡ k + (lo + 1) = omega arith in subst (λ (y : ℕ). holds_number stop from to y ≡ true) e x) in
+            (λ k l u x. let e : lo + k + 1 ≡ k + (lo + 1) = omega arith in subst (λ (y : ℕ). holds_number stop from to y ≡ true) e x) in
             omega (arith, weaker, stored_are_few stop from to (lo + 1) 0 m (lines.0.rises p i.within))
         of_part (part.Band ptr start) i = omega (arith, filter_none 0 m)
 
@@ -156,14 +155,14 @@ module _ (a : Asked) (within : a.level < length a.format.levels) (apart : IsApar
   made_sound ts ls stand h lo hi le i low high =
       let n = natural i (at_most_in (pos 0) i (omega (arith, le_out (pos lo) i low))) in
       subst (SoundWithin anywhere ts ls made (λ j. j <ℤ pos hi)) (sym n.1)
-        (sound_at ts ls anywhere (λ j. j <ℤ pos hi) stand h n.0 (omega (arith, le, lt_out i (pos hi) high, ap up n.1, ap down n.1)))
+      (sound_at ts ls anywhere (λ j. j <ℤ pos hi) stand h n.0 (omega (arith, le, lt_out i (pos hi) high, ap up n.1, ap down n.1)))
 
   pub made_stops : HasFewStops a made
   made_stops ts ls stand h lo hi le =
       let m = span (pos lo) (pos hi) - 1 in
       let long = span_is lo hi in
       let weaker = filter_at_most (λ k. (view ts ls made (pos hi) (pos lo +ℤ pos k)).stop) (λ k. stops_of a stand (lo + k)) 0 m
-        (λ k l u x. (shows ts ls stand h (lo + k) (pos hi) (omega (arith, u, long, le))).stop x) in
+      (λ k l u x. (shows ts ls stand h (lo + k) (pos hi) (omega (arith, u, long, le))).stop x) in
       omega (arith, weaker, few_stops ts ls stand h lo m)
 
 -- the looplet that is made of the fibre and its level is the unfurled one

@@ -1,11 +1,10 @@
 -- The phases that walks have in common: the fill up to the extent, and whether a fibre has a place.
-use Rattle.std.proofs.Common.{◌≡◌, ℕ, ◌+◌, ◌<◌, ◌≤◌, ◌^◌, List, [], ◌∷◌, refl, sym, ap, ◌∙◌, subst, inl, ℤ, pos, ◌+ℤ◌, Bool, true, false, arith}
-use Rattle.std.specs.Prelude.{slice_index, int_lt, int_le, ◌||◌, if◌then◌else◌}
+use Rattle.std.proofs.Common.{◌≡◌, ℕ, ◌+◌, ◌<◌, ◌≤◌, ◌^◌, List, [], ◌∷◌, refl, sym, ap, ◌∙◌, subst, inl, ℤ, pos, true, false}
+use Rattle.std.specs.Prelude.{slice_index, int_lt, int_le, if◌then◌else◌}
 use Rattle.fin_base.specs.Words.{truth}
 use Rattle.fin_base.specs.declared.terms.Op.TheVariants as op
 use Rattle.fin_ir.specs.declared.expression.Table.TheVariants as table
 use Rattle.fin_ir.specs.declared.expression.IExpr.{IExpr}
-use Rattle.fin_ir.specs.declared.expression.IExpr.TheVariants.{Num}
 use Rattle.fin_ir.specs.Frozen.{Frozen}
 use Rattle.fin_ir.specs.Loads.{table_in, part_at}
 use Rattle.fin_ir.specs.Machine.{stored}

@@ -1,23 +1,21 @@
 -- What the expressions of a fibre come to where the fibre stands at a position.
-use Rattle.std.proofs.Common.{◌≡◌, ℕ, ◌+◌, ◌-◌, ◌*◌, ◌<◌, ◌≤◌, ◌^◌, List, length, refl, sym, ap, ◌∙◌, subst, ⊎_elim, ℤ, pos, ◌+ℤ◌, Some, None, Bool, true, false, w64, arith, get_or-set_same}
+use Rattle.std.proofs.Common.{◌≡◌, ℕ, ◌+◌, ◌-◌, ◌<◌, ◌≤◌, ◌^◌, List, length, ap, ◌∙◌, ℤ, pos, Some, None, arith, get_or-set_same}
 use Rattle.std.specs.Prelude.{slice_index, slice_index_or, slice_set, Option, if◌then◌else◌}
-use Rattle.std.specs.Int.{int_wrap}
 use Rattle.fin_base.specs.declared.terms.Op.{Op}
 use Rattle.fin_base.specs.declared.terms.Op.TheVariants as op
 use Rattle.fin_base.specs.Words.{operate}
 use Rattle.fin_tensor.specs.declared.part.Part.{Part}
-use Rattle.fin_tensor.specs.Levels.{IsAt, HasNumbers, LiesInFibre, fibres, fibre_from, fibre_to, first_from, numbers_of, wanted}
+use Rattle.fin_tensor.specs.Levels.{IsAt, LiesInFibre, fibres, first_from, numbers_of, wanted}
 use Rattle.fin_ir.specs.declared.expression.Table.{Table}
 use Rattle.fin_ir.specs.declared.expression.Table.TheVariants as table
 use Rattle.fin_ir.specs.declared.expression.IExpr.{IExpr}
-use Rattle.fin_ir.specs.declared.expression.IExpr.TheVariants.{Num, Local, Two, Cell}
+use Rattle.fin_ir.specs.declared.expression.IExpr.TheVariants.{Num, Local, Two}
 use Rattle.fin_ir.specs.Frozen.{Frozen}
-use Rattle.fin_ir.specs.Loads.{table_in, part_at, number_at, seek, sought, word_at}
+use Rattle.fin_ir.specs.Loads.{table_in, part_at, number_at, seek, word_at}
 use Rattle.fin_ir.specs.Machine.{Tensor, stored}
 use Rattle.fin_ir.specs.Value.{extents_in, parts_in, words_in, is_off}
 use Rattle.fin_ir.proofs.Seeks.{sought_in}
 use Rattle.fin_ir.proofs.Values.{value_two, value_cell, value_seek, value_val, value_local, value_num}
-use Rattle.fin_looplet.specs.Names.{Names}
 use Rattle.fin_looplet.specs.View.{Store, value, Sight, word, position, absent, leaf_sight, at_step}
 use Rattle.fin_looplet.proofs.Exprs.{value_set}
 use Rattle.fin_unfurl.specs.declared.fibre.Fibre.{Fibre}
@@ -84,7 +82,7 @@ module _ (ts : Store) (f : Fibre) (e : IExpr) (s : Frozen) (p : ℕ) (is : ts f.
         let last = ap (λ (xs : List ℕ). pos (slice_index xs (p + 1))) ptr_is in
         value_seek ts ls f.tensor f.level (begin f e) (end f e) (Local (f.cursor + 1))
         ∙ ap (λ (y : Tensor). seek (slice_index (extents_in y) f.level) (fibres (extents_in y) (parts_in y) 1 f.level) (part_at (parts_in y) f.level) (value ts ls (begin f e))
-          (value ts ls (end f e)) (value ts ls (Local (f.cursor + 1)))) is
+        (value ts ls (end f e)) (value ts ls (Local (f.cursor + 1)))) is
         ∙ ap (λ (z : ℤ). seek n count part z (value ts ls (end f e)) (value ts ls (Local (f.cursor + 1)))) (begin_value ∙ first)
         ∙ ap (λ (z : ℤ). seek n count part (pos from) z (value ts ls (Local (f.cursor + 1)))) (end_value ∙ last)
         ∙ ap (λ (z : ℤ). seek n count part (pos from) (pos to) z) (value_local ts ls (f.cursor + 1) ∙ at)

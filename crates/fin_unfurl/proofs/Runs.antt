@@ -1,39 +1,29 @@
 -- The walk of runs: one after another.
-use Rattle.std.proofs.Common.{◌≡◌, ℕ, ◌+◌, ◌-◌, ◌*◌, ◌<◌, ◌≤◌, ◌^◌, List, [], ◌∷◌, length, refl, sym, ap, ◌∙◌, subst, inl, inr, ◌⊎◌, ⊎_elim, ℤ, pos, ◌+ℤ◌, ◌≤ℤ◌, ◌<ℤ◌, Some, None, Bool, true, false, T, w64, arith}
-use Rattle.std.specs.Prelude.{slice_index, slice_index_or, slice_set, ◌||◌, ◌&&◌, nat_lt, nat_eq, int_lt, int_le, if◌then◌else◌, Option, is_some}
+use Rattle.std.proofs.Common.{◌≡◌, ℕ, ◌+◌, ◌-◌, ◌<◌, ◌≤◌, List, refl, sym, ap, ◌∙◌, subst, inr, ⊎_elim, ℤ, pos, ◌<ℤ◌, Some, Bool, true, false, T, arith}
+use Rattle.std.specs.Prelude.{slice_index, slice_set, int_le}
 use Rattle.std.proofs.lemmas.Bool.{cases_lt}
-use Rattle.std.proofs.lemmas.List.{get_or_past, get_or-set_same}
-use borrow.Author.Differences.{up, down, below_in, at_most_in, lt_out, le_out, lt-true}
-use Rattle.fin_base.specs.declared.terms.Op.TheVariants as op
-use Rattle.fin_base.specs.Words.{truth}
-use Rattle.std.specs.Int.{int_wrap}
+use borrow.Author.Differences.{up, down, below_in, at_most_in, lt_out, le_out}
 use Rattle.fin_tensor.specs.declared.part.Part.{Part}
 use Rattle.fin_tensor.specs.declared.part.Part.TheVariants as part
-use Rattle.fin_tensor.specs.Levels.{IsLevel, IsPtr, IsStop, IsFibre, LiesInFibre, fibres, first_from, key_in, numbers_of, wanted}
+use Rattle.fin_tensor.specs.Levels.{IsLevel, IsPtr, IsStop, IsFibre, LiesInFibre, fibres, first_from, numbers_of, wanted}
 use Rattle.fin_tensor.specs.Pieces.{holds_number}
 use Rattle.fin_tensor.proofs.Fibres.{IsFirst, first_place, first_is, at_runs, level_runs}
 use Rattle.fin_tensor.proofs.Walk.{run_below}
 use Rattle.fin_ir.specs.declared.expression.Table.TheVariants as table
 use Rattle.fin_ir.specs.declared.expression.IExpr.{IExpr}
-use Rattle.fin_ir.specs.declared.expression.IExpr.TheVariants.{Num, Local, Two}
+use Rattle.fin_ir.specs.declared.expression.IExpr.TheVariants.{Local}
 use Rattle.fin_ir.specs.Frozen.{Frozen}
 use Rattle.fin_ir.specs.Loads.{table_in, part_at}
-use Rattle.fin_ir.specs.Value.{is_off}
-use Rattle.fin_ir.proofs.Values.{value_num, value_local, value_pick}
-use Rattle.fin_looplet.specs.declared.looplet.Phase.{Phase}
-use Rattle.fin_looplet.specs.declared.looplet.Leaf.TheVariants.{Fill}
-use Rattle.fin_looplet.specs.declared.looplet.Looplet.TheVariants.{Run, Lookup, Sequence, Stepper}
-use Rattle.fin_looplet.specs.View.{Store, value, view, View, Sight, gap, leaf_sight, ended, plain, at_step}
+use Rattle.fin_looplet.specs.View.{Store, value, view, View, leaf_sight, ended, plain, at_step}
 use Rattle.fin_looplet.specs.Sound.{Places, SoundWithin}
-use Rattle.fin_looplet.proofs.Exprs.{value_set}
-use Rattle.fin_looplet.proofs.Bridges.{view_phase, view_stepper, sound_phase, sound_stepper}
+use Rattle.fin_looplet.proofs.Bridges.{view_stepper, sound_stepper}
 use Rattle.fin_unfurl.specs.declared.fibre.Fibre.{Fibre}
-use Rattle.fin_unfurl.specs.Parts.{next, cell, begin, end, place, leaf}
+use Rattle.fin_unfurl.specs.Parts.{cell, end, place, leaf}
 use Rattle.fin_unfurl.specs.Walks.{runs_walker, runs_walk}
 use Rattle.fin_unfurl.proofs.Places.{Here, cell_value, leaf_value, place_at, cursor_value}
-use Rattle.fin_unfurl.proofs.Small.{wrap_small, lt_yes, lt_no, le_yes, le_no, natural, sub_is}
+use Rattle.fin_unfurl.proofs.Small.{le_yes, le_no, natural}
 use Rattle.fin_unfurl.proofs.Keys.{key_some, key_none, held_yes, held_no}
-use Rattle.fin_unfurl.proofs.Shows.{shown, ShowsAt, sight_or}
+use Rattle.fin_unfurl.proofs.Shows.{ShowsAt, sight_or}
 
 module _ (ts : Store) (ls : List ℤ) (f : Fibre) (e : IExpr) (s : Frozen) (p : ℕ) (h : Here ts ls f e s p) (ptr stop : List ℕ) (kind : part_at s.parts f.level ≡ part.Runs ptr stop) where
   abbrev from : ℕ
@@ -109,9 +99,12 @@ module _ (ts : Store) (ls : List ℤ) (f : Fibre) (e : IExpr) (s : Frozen) (p : 
       let k = slice_index stop (run m) in
       sound_stepper bound ts ls (runs_walker f e) served (pos m) (
         subst (λ (z : ℤ). pos m <ℤ z) (sym (stop_value m)) (below_in (pos m) (pos k) (omega (arith, over m lt))),
-        ((λ j a b c.
-            let at = natural j (at_most_in (pos 0) j (omega (arith, le_out (pos m) j a))) in
-            let before = subst (λ (z : ℤ). j <ℤ z) (stop_value m) c in
-            let same = stays m at.0 (omega (arith, le_out (pos m) j a, ap up at.1, ap down at.1)) (omega (arith, lt_out j (pos k) before, ap up at.1, ap down at.1)) in
-            ap (λ (z : ℤ). value ts (slice_set ls (f.cursor + 1) z) (place f e)) at.1 ∙ sought at.0 ∙ ap pos same ∙ sym (sought m)), tt),
+        (
+          (λ j a b c.
+              let at = natural j (at_most_in (pos 0) j (omega (arith, le_out (pos m) j a))) in
+              let before = subst (λ (z : ℤ). j <ℤ z) (stop_value m) c in
+              let same = stays m at.0 (omega (arith, le_out (pos m) j a, ap up at.1, ap down at.1)) (omega (arith, lt_out j (pos k) before, ap up at.1, ap down at.1)) in
+              ap (λ (z : ℤ). value ts (slice_set ls (f.cursor + 1) z) (place f e)) at.1 ∙ sought at.0 ∙ ap pos same ∙ sym (sought m)),
+          tt,
+        ),
       )

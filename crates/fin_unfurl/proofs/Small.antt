@@ -1,9 +1,9 @@
 -- Numbers below 2^63 as words, and tests on them.
-use Rattle.std.proofs.Common.{◌≡◌, ℕ, ◌+◌, ◌-◌, ◌<◌, ◌≤◌, ◌^◌, refl, sym, ℤ, pos, negsuc, neg_ℤ, ◌-ℤ◌, ◌≤ℤ◌, Bool, true, false, w64, arith}
+use Rattle.std.proofs.Common.{◌≡◌, ℕ, ◌-◌, ◌<◌, ◌≤◌, ◌^◌, refl, sym, ℤ, pos, negsuc, neg_ℤ, ◌-ℤ◌, ◌≤ℤ◌, true, false, w64, arith}
 use Rattle.std.specs.Prelude.{int_lt, int_le}
 use Rattle.std.specs.Int.{int_wrap}
 use Rattle.std.proofs.lemmas.Int.{int_wrap_fits}
-use borrow.Author.Differences.{up, down, same_in, sum_is_lem, neg_is, le_out, true_is_lt, false_is_lt, true_is_le, false_is_le}
+use borrow.Author.Differences.{same_in, sum_is_lem, neg_is, le_out, true_is_lt, false_is_lt, true_is_le, false_is_le}
 
 pub wrap_small : (m : ℕ) → m < 2 ^ 63 → int_wrap w64 (pos m) ≡ pos m
 wrap_small m h = int_wrap_fits w64 (pos m) (record { sfits = h })

@@ -1,5 +1,5 @@
 -- The walk of each level shows its fibre and is sound.
-use Rattle.std.proofs.Common.{◌≡◌, ℕ, ◌+◌, ◌<◌, List, Bool, true, false, ℤ, pos}
+use Rattle.std.proofs.Common.{◌≡◌, ℕ, ◌+◌, ◌<◌, List, Bool, false, ℤ, pos}
 use Rattle.fin_tensor.specs.declared.format.Level.{Level}
 use Rattle.fin_tensor.specs.declared.format.Level.TheVariants as level
 use Rattle.fin_tensor.specs.declared.part.Part.{Part}
@@ -39,7 +39,7 @@ module _ (ts : Store) (ls : List ℤ) (f : Fibre) (e : IExpr) (s : Frozen) (p : 
   walk_shows kind x is lv = absurd lv
 
   pub walk_sound : (kind : Level) (x : Part) → part_at s.parts f.level ≡ x → IsLevel kind f.extent count x → (bound served : Places) (m : ℕ) → m < f.extent
-    → SoundWithin bound ts ls (walk_of kind f e) served (pos m)
+      → SoundWithin bound ts ls (walk_of kind f e) served (pos m)
   walk_sound level.Dense part.Dense is lv = λ bound served m lt. tt
   walk_sound level.List (part.Keys ptr idx) is lv = list_sound ts ls f e s p h ptr idx is
   walk_sound level.Dict (part.Keys ptr idx) is lv = list_sound ts ls f e s p h ptr idx is

@@ -85,12 +85,12 @@ length_of a (at s p) = fibre.stored_length fibre.walked (part_at s.parts a.level
 -- at each coordinate it shows what the storage has
 abbrev pub ShowsLeaves : Asked → Looplet → Type 0
 ShowsLeaves a l = (ts : Store) (ls : List ℤ) (stand : Stand) → StandsAt ts ls a stand → (end : ℤ) (i : ℕ) → i < a.extent
-  → (view ts ls l end (pos i)).seen.sight ≡ sight_at a stand i
+    → (view ts ls l end (pos i)).seen.sight ≡ sight_at a stand i
 
 -- and it varies where the fibre does
 abbrev pub ShowsVarying : Asked → Looplet → Type 0
 ShowsVarying a l = (ts : Store) (ls : List ℤ) (stand : Stand) → StandsAt ts ls a stand → (end : ℤ) (i : ℕ) → i < a.extent
-  → (view ts ls l end (pos i)).seen.varies ≡ varies_at a stand i
+    → (view ts ls l end (pos i)).seen.varies ≡ varies_at a stand i
 
 -- inside each region of the fibre it breaks where the fibre does
 abbrev pub ShowsBreaks : Asked → Looplet → Type 0
@@ -104,7 +104,7 @@ IsSound a l = (ts : Store) (ls : List ℤ) (stand : Stand) → StandsAt ts ls a 
 -- and has no more stops than the fibre has places
 abbrev pub HasFewStops : Asked → Looplet → Type 0
 HasFewStops a l = (ts : Store) (ls : List ℤ) (stand : Stand) → StandsAt ts ls a stand → (lo hi : ℕ) → hi ≤ a.extent
-  → stops ts ls l (pos lo) (pos hi) ≤ length_of a stand
+    → stops ts ls l (pos lo) (pos hi) ≤ length_of a stand
 
 -- ---- locals
 

@@ -57,7 +57,7 @@ mask_of o b = Sequence (known (holds_before o) (bounded b) ∷ known (holds_at o
 -- 1 where the comparison holds and 0 elsewhere, at each coordinate
 abbrev pub Compares : Op → IExpr → Looplet → Type 0
 Compares o b l = (ts : Store) (ls : List ℤ) (end : ℤ) (i : ℕ) → i < 2 ^ 40
-  → (view ts ls l end (pos i)).seen ≡ record { sight = word (operate o (pos i) (value ts ls b)); varies = false }
+    → (view ts ls l end (pos i)).seen ≡ record { sight = word (operate o (pos i) (value ts ls b)); varies = false }
 
 -- it breaks at the bound and behind it
 abbrev pub BreaksAtBound : IExpr → Looplet → Type 0

@@ -1,5 +1,5 @@
 -- The expressions and leaves of a fibre.
-use Rattle.std.specs.Prelude.{ℕ, ◌+◌, Option, Some, None, ℤ, pos}
+use Rattle.std.specs.Prelude.{ℕ, ◌+◌, Option, Some, None, pos}
 use Rattle.fin_base.specs.declared.terms.Op.TheVariants as op
 use Rattle.fin_ir.specs.declared.expression.Table.{Table}
 use Rattle.fin_ir.specs.declared.expression.Table.TheVariants as table

@@ -7,7 +7,7 @@ use Rattle.fin_looplet.specs.declared.looplet.Leaf.TheVariants.{Fill}
 use Rattle.fin_looplet.specs.declared.looplet.Looplet.{Looplet}
 use Rattle.fin_looplet.specs.declared.looplet.Looplet.TheVariants.{Run, Sequence, Shift}
 use Rattle.fin_looplet.specs.declared.looplet.Phase.{Phase}
-use Rattle.fin_looplet.specs.View.{Store, value, view, Seen, gap, IsBreak, IsStop}
+use Rattle.fin_looplet.specs.View.{Store, value, view, gap, IsBreak, IsStop}
 use Rattle.fin_looplet.specs.Sound.{SoundIn}
 
 -- ---- the looplet
@@ -30,15 +30,15 @@ edged child by n fill = Sequence (outside fill by ∷ boxed child by n ∷ outsi
 -- leaves, and whether they vary
 abbrev pub MovesLeaves : Looplet → IExpr → Looplet → Type 0
 MovesLeaves child by l = (ts : Store) (ls : List ℤ) (end i : ℤ)
-  → (view ts ls l end i).seen ≡ (view ts ls child (end -ℤ value ts ls by) (i -ℤ value ts ls by)).seen
+    → (view ts ls l end i).seen ≡ (view ts ls child (end -ℤ value ts ls by) (i -ℤ value ts ls by)).seen
 
 abbrev pub MovesBreaks : Looplet → IExpr → Looplet → Type 0
 MovesBreaks child by l = (ts : Store) (ls : List ℤ) (lo hi x : ℤ)
-  → IsBreak ts ls l lo hi x ↔ IsBreak ts ls child (lo -ℤ value ts ls by) (hi -ℤ value ts ls by) (x -ℤ value ts ls by)
+    → IsBreak ts ls l lo hi x ↔ IsBreak ts ls child (lo -ℤ value ts ls by) (hi -ℤ value ts ls by) (x -ℤ value ts ls by)
 
 abbrev pub MovesStops : Looplet → IExpr → Looplet → Type 0
 MovesStops child by l = (ts : Store) (ls : List ℤ) (lo hi x : ℤ)
-  → IsStop ts ls l lo hi x ↔ IsStop ts ls child (lo -ℤ value ts ls by) (hi -ℤ value ts ls by) (x -ℤ value ts ls by)
+    → IsStop ts ls l lo hi x ↔ IsStop ts ls child (lo -ℤ value ts ls by) (hi -ℤ value ts ls by) (x -ℤ value ts ls by)
 
 -- a child that is sound in a region gives a looplet that is sound in the moved one
 abbrev pub KeepsSound : Looplet → IExpr → Looplet → Type 0
@@ -65,7 +65,7 @@ EdgesBreak child by n l = (ts : Store) (ls : List ℤ) (lo hi : ℕ) → hi ≤ 
 abbrev pub EdgesStop : Looplet → IExpr → ℕ → Looplet → Type 0
 EdgesStop child by n l = (ts : Store) (ls : List ℤ) (lo hi : ℕ) → hi ≤ 2 ^ 40 → (x : ℕ) → IsStop ts ls l (pos lo) (pos hi) (pos x)
     ↔ ((lo < x) × (x < hi) × (value ts ls by <ℤ pos x) × (pos x ≤ℤ (value ts ls by +ℤ pos n)) ×
-      ((view ts ls child (pos n) (pos x -ℤ value ts ls by -ℤ pos 1)).stop ≡ true))
+    ((view ts ls child (pos n) (pos x -ℤ value ts ls by -ℤ pos 1)).stop ≡ true))
 
 -- a child that is sound in the extent gives a looplet that is sound wherever loops go
 abbrev pub EdgesSound : Looplet → ℕ → Looplet → Type 0

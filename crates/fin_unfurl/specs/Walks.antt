@@ -1,5 +1,5 @@
 -- The looplets of walked fibres.
-use Rattle.std.specs.Prelude.{ℕ, ◌+◌, min, nat_eq, List, [], ◌∷◌, length, Option, Some, None, ℤ, pos, Bool, true, false, not, if◌then◌else◌}
+use Rattle.std.specs.Prelude.{ℕ, ◌+◌, min, nat_eq, List, [], ◌∷◌, length, Option, Some, None, pos, Bool, false, not, if◌then◌else◌}
 use Rattle.fin_base.specs.declared.terms.Op.TheVariants as op
 use Rattle.fin_tensor.specs.declared.format.Format.{Format}
 use Rattle.fin_tensor.specs.declared.format.Level.{Level}

@@ -41,7 +41,13 @@ pub fn unfurl(
     ensures depends { IfOk result (DependsOnPlace (asked format.now tensor level extent pos there cursor)) }
 {
     let fibre = fibre_in(format, tensor, level, extent, cursor);
-    unfurled(alloc, *format.levels.get(level as usize), fibre, &pos, there)
+    unfurled(
+        alloc,
+        *format.levels.get(level as usize),
+        fibre,
+        &pos,
+        there,
+    )
 }
 
 fn fibre_in(format: &Format, tensor: u8, level: u8, extent: u64, cursor: u32) -> Fibre
@@ -84,12 +90,7 @@ fn unfurled(
     guarded(alloc, fibre, there, walk)
 }
 
-fn walk(
-    alloc: Global,
-    level: Level,
-    fibre: Fibre,
-    pos: &IExpr,
-) -> Result<Looplet, AllocError>
+fn walk(alloc: Global, level: Level, fibre: Fibre, pos: &IExpr) -> Result<Looplet, AllocError>
     requires extent { fibre.extent ≤ 2 ^ 40 }
     requires cursor { fibre.cursor + 1 < 2 ^ 32 }
     ensures { IfOk result (λ l. l ≡ spec.walk_of level fibre pos.now) }
@@ -287,12 +288,7 @@ fn start(alloc: Global, fibre: Fibre, pos: &IExpr) -> Result<IExpr, AllocError>
 }
 
 // The walk where the position is there, else the fill.
-fn guarded(
-    alloc: Global,
-    fibre: Fibre,
-    there: IExpr,
-    walk: Looplet,
-) -> Result<Looplet, AllocError>
+fn guarded(alloc: Global, fibre: Fibre, there: IExpr, walk: Looplet) -> Result<Looplet, AllocError>
     ensures { IfOk result (λ l. l ≡ spec.guarded fibre there walk) }
 {
     if is_there(&there) {

@@ -1,11 +1,11 @@
-use Rattle.std.proofs.Common.{◌≡◌, sym, subst, ◌∙◌, ap}
+use Rattle.std.proofs.Common.{◌≡◌, sym, subst, ◌∙◌}
 use Rattle.std.proofs.lemmas.Result.{IfOk-weaker}
 use Rattle.fin_tensor.specs.declared.format.Level.TheVariants as level
 use Rattle.fin_tensor.proofs.Walk.{got}
 use Rattle.fin_looplet.specs.declared.looplet.Looplet.{Looplet}
-use Rattle.fin_unfurl.specs.Fibres.{Asked, asked, ShowsLeaves, ShowsVarying, ShowsBreaks, IsSound, HasFewStops, OwnsTwo, DependsOnPlace}
+use Rattle.fin_unfurl.specs.Fibres.{asked, ShowsLeaves, ShowsVarying, ShowsBreaks, IsSound, HasFewStops, OwnsTwo, DependsOnPlace}
 use Rattle.fin_unfurl.specs.Walks.{guarded, walk_of}
-use Rattle.fin_unfurl.proofs.Means.{made_of, made_is, made_leaves, made_varying, made_breaks, made_sound, made_stops, made_owns, made_depends}
+use Rattle.fin_unfurl.proofs.Means.{made_is, made_leaves, made_varying, made_breaks, made_sound, made_stops, made_owns, made_depends}
 use Rattle.fin_unfurl.proofs.walks.unfurl.Goals as goal
 
 pub returns-clause-leaves : goal.returns-clause-leaves
