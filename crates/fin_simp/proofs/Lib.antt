@@ -16,3 +16,4 @@ mod Walking
 mod Resting
 mod Single
 mod Rewriting
+mod Reading

@@ -9,6 +9,7 @@
 mod facts;
 mod laws;
 mod nothing;
+mod reads;
 mod remainder;
 mod rewrite;
 mod spine;
@@ -18,6 +19,7 @@ pub use laws::{
     nothing_is_left, nothing_makes_nothing, nothing_stays_nothing, simplified_means_the_same,
 };
 pub use nothing::{Seen, are_nothing, is_nothing};
+pub use reads::{ExprReads, ExprWalk, StmtReads, StmtWalk, reads_of, reads_of_all, reads_of_expr};
 pub use remainder::{Left, Remainder, simplify_expr};
 pub use rewrite::{Rewritten, simplify, simplify_all, simplify_stmt};
 pub use spine::{Found, literal};

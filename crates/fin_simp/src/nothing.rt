@@ -40,7 +40,7 @@ pub fn fails(literal: Option<i64>) -> bool
     }
 }
 
-fn settled(known: Option<i64>, literal: Option<i64>) -> Option<i64>
+pub fn settled(known: Option<i64>, literal: Option<i64>) -> Option<i64>
     ensures { result ≡ spec.settled_literal known literal }
 {
     match known {

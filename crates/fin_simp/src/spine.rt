@@ -24,7 +24,7 @@ fn absorbed(op: Op, n: i64) -> Option<i64>
     if absorbs(op, n) { Some(n) } else { None }
 }
 
-fn joined(op: Op, a: Option<i64>, b: Option<i64>) -> Option<i64>
+pub fn joined(op: Op, a: Option<i64>, b: Option<i64>) -> Option<i64>
     ensures { result ≡ spec.joined_literal op a b }
 {
     match (a, b) {
@@ -35,7 +35,7 @@ fn joined(op: Op, a: Option<i64>, b: Option<i64>) -> Option<i64>
     }
 }
 
-fn turned(a: Option<i64>) -> Option<i64>
+pub fn turned(a: Option<i64>) -> Option<i64>
     ensures { result ≡ spec.turned_literal a }
 {
     match a {
