@@ -17,3 +17,4 @@ mod Resting
 mod Single
 mod Rewriting
 mod Reading
+mod Lasting

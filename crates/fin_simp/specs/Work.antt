@@ -90,10 +90,15 @@ sight_of vars var c d = sight_at d.index d.extent d.stand (place (slice_set vars
 
 -- ---- the masks of a loop
 
+-- a test that compares the variable with a bound: which stands first, and how it compares
 pub record Mask : Type 0 where
   pub test : ℕ
-  pub value : ℤ → ℤ
+  pub op : Op
+  pub bare_first : Bool
   pub bound : ℤ
+
+abbrev pub mask_value : Mask → ℤ → ℤ
+mask_value m c = if m.bare_first then operate m.op c m.bound else operate m.op m.bound c
 
 abbrev pub is_comparison : Op → Bool
 is_comparison op.Lt = true
@@ -125,10 +130,10 @@ is_var var e = names_step var (out-Expr e)
 -- a comparison of the bare variable with a bound, on either side
 abbrev pub mask_by : Numbers → ℕ → ℕ → Expr-F Expr → Option Mask
 mask_by vars var test (Expr-F.Two o left right) =
-    if is_comparison o && is_var var left && is_bound_of var right
-    then (let bound = value_of right vars (λ tensor. None) in Some (record { test = test; value = λ c. operate o c bound; bound = bound }))
-    else (if is_comparison o && is_var var right && is_bound_of var left
-    then (let bound = value_of left vars (λ tensor. None) in Some (record { test = test; value = λ c. operate o bound c; bound = bound }))
+    if is_comparison o && (is_var var left && is_bound_of var right)
+    then Some (record { test = test; op = o; bare_first = true; bound = value_of right vars (λ tensor. None) })
+    else (if is_comparison o && (is_var var right && is_bound_of var left)
+    then Some (record { test = test; op = o; bare_first = false; bound = value_of left vars (λ tensor. None) })
     else None)
 mask_by vars var test _ = None
 
@@ -167,7 +172,7 @@ gap_among (d ∷ ds) seen k = if nat_eq d.read k && (seen d).gap then Some d.fil
 
 abbrev pub test_among : List Mask → ℕ → ℕ → Option ℤ
 test_among [] c k = None
-test_among (m ∷ ms) c k = if nat_eq m.test k then Some (m.value (pos c)) else test_among ms c k
+test_among (m ∷ ms) c k = if nat_eq m.test k then Some (mask_value m (pos c)) else test_among ms c k
 
 -- what is known at a coordinate
 abbrev pub marks_at : Entered → Numbers → Marks → ℕ → Marks
