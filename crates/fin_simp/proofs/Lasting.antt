@@ -191,7 +191,7 @@ tests_last (m ∷ ms) c k o h =
 
 -- ---- driven reads
 
-driven_lasts : (vars : Numbers) (var c : ℕ) (d : Driven) → MovesInside vars var c d → (sight_of vars var c d).ends ≡ false → SeenSame (sight_of vars var c d) (sight_of vars var (c + 1) d)
+pub driven_lasts : (vars : Numbers) (var c : ℕ) (d : Driven) → MovesInside vars var c d → (sight_of vars var c d).ends ≡ false → SeenSame (sight_of vars var c d) (sight_of vars var (c + 1) d)
 driven_lasts vars var c d q h =
     subst (λ (z : ℤ). SeenSame (sight_of vars var c d) (sight_at d.index d.extent d.stand z)) (sym q.step) (sights_last d.index d.extent d.stand (place (slice_set vars var (pos c)) d.index) q.here q.next h)
 

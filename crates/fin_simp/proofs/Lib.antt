@@ -18,3 +18,4 @@ mod Single
 mod Rewriting
 mod Reading
 mod Lasting
+mod Costing

@@ -15,7 +15,7 @@ mod rewrite;
 mod spine;
 
 pub use facts::{Bound, Facts, Gap, Known};
-pub use laws::{known_lasts, 
+pub use laws::{known_lasts, pieces_cost, 
     nothing_is_left, nothing_makes_nothing, nothing_stays_nothing, simplified_means_the_same,
 };
 pub use nothing::{Seen, are_nothing, is_nothing};
