@@ -1,16 +1,15 @@
 -- What a piece costs.
-use Rattle.std.proofs.Common.{◌≡◌, ℕ, zero, suc, ◌+◌, ℤ, pos, Bool, true, false, not, ◌&&◌, ◌||◌, ◌-◌, List, [], ◌∷◌, Option, refl, sym, ap, ◌∙◌, arith, subst, if◌then◌else◌}
+use Rattle.std.proofs.Common.{◌≡◌, ℕ, zero, suc, ◌+◌, ℤ, pos, Bool, true, false, not, ◌&&◌, ◌||◌, ◌-◌, List, [], ◌∷◌, Option, refl, sym, ap, ◌∙◌, arith, if◌then◌else◌}
 use Rattle.std.proofs.Math.Path.{fun_ext}
 use Rattle.std.specs.Prelude.{nat_eq, slice_set}
 use Rattle.std.specs.List.{list_all, list_any}
 use Rattle.fin_ast.specs.Value.{Numbers}
-use Rattle.fin_stage.specs.Staged.{Run, Action, worked, repeated}
+use Rattle.fin_stage.specs.Staged.{Run, worked, repeated}
 use Rattle.fin_simp.specs.Left.{Marks}
 use Rattle.fin_simp.specs.Rest.{Access, Rest, is_none_kind}
-use Rattle.fin_simp.specs.Sights.{Sight}
-use Rattle.fin_simp.specs.Work.{Driven, Mask, is_comparison, Entered, sight_of, mask_ends, marks_at, begins_chunk, ends_after, varies_among, names_var, is_one_update, is_in, is_fixed, costing, first_share, turn, turns}
+use Rattle.fin_simp.specs.Work.{Driven, Mask, is_comparison, sight_of, mask_ends, begins_chunk, ends_after, varies_among, names_var, is_one_update, is_in, is_fixed, costing, first_share, turn, turns}
 use Rattle.fin_simp.specs.Lasting.{AllMove, KnownSame}
-use Rattle.fin_simp.specs.Costs.{Running, known_at, is_nothing_at, is_fixed_at, piece_from, Unbroken, PiecesCost}
+use Rattle.fin_simp.specs.Costs.{Running, known_at, is_nothing_at, is_fixed_at, Unbroken, PiecesCost}
 use Rattle.fin_simp.proofs.Lasting.{first_false, second_false, driven_lasts, known_lasts}
 
 -- ---- the same at the next coordinate

@@ -1,5 +1,5 @@
 -- What is known lasts to the end of a piece.
-use Rattle.std.proofs.Common.{◌≡◌, ◌⊎◌, ⊎_elim, ℕ, zero, suc, ◌+◌, ◌-◌, ◌<◌, ℤ, pos, negsuc, ◌+ℤ◌, Bool, true, false, not, ◌&&◌, ◌||◌, List, [], ◌∷◌, Option, Some, None, refl, sym, ap, ◌∙◌, arith, subst, if◌then◌else◌}
+use Rattle.std.proofs.Common.{◌≡◌, ⊎_elim, ℕ, zero, suc, ◌+◌, ◌-◌, ◌<◌, ℤ, pos, negsuc, ◌+ℤ◌, Bool, true, false, not, ◌&&◌, ◌||◌, List, [], ◌∷◌, Option, Some, None, refl, sym, ap, ◌∙◌, arith, subst, if◌then◌else◌}
 use Rattle.std.specs.Prelude.{is_some, is_none, nat_eq, nat_lt, int_lt, int_le, slice_index, slice_set}
 use Rattle.std.specs.List.{list_all, list_any}
 use Rattle.std.specs.Option.{option_or}
@@ -16,8 +16,7 @@ use Rattle.fin_tensor.specs.Pieces.{Course, walked, followed, holds_number, ends
 use Rattle.fin_ast.specs.declared.tree.Index.{Index}
 use Rattle.fin_ast.specs.Value.{Numbers, place}
 use Rattle.fin_simp.specs.Sights.{Stand, Nowhere, At, Unsettled, Sight, fibre_sight, stand_sight, course_of, edged, empty, sight_at}
-use Rattle.fin_simp.specs.Left.{Marks}
-use Rattle.fin_simp.specs.Work.{Driven, Mask, mask_value, is_comparison, mask_ends, Entered, sight_of, gap_among, test_among, begins_chunk, ends_after as piece_ends}
+use Rattle.fin_simp.specs.Work.{Driven, Mask, mask_value, is_comparison, mask_ends, sight_of, gap_among, test_among, begins_chunk}
 use Rattle.fin_simp.specs.Lasting.{IsInside, SeenSame, SightsLast, MovesInside, AllMove, KnownLasts}
 
 pub first_false : (a b : Bool) → (a || b) ≡ false → a ≡ false

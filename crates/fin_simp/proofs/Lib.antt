@@ -11,7 +11,7 @@ mod Agreeing
 mod Judging
 mod Worth
 mod Promises
-mod Winding
+mod Sides
 mod Walking
 mod Resting
 mod Single
@@ -19,3 +19,4 @@ mod Rewriting
 mod Reading
 mod Lasting
 mod Costing
+mod Staging

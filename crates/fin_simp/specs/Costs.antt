@@ -1,5 +1,5 @@
 -- What a piece costs: where no piece ends within some coordinates, their shares make the cost of one piece.
-use Rattle.std.specs.Prelude.{◌≡◌, ℕ, zero, suc, ◌+◌, Bool, true, false, List}
+use Rattle.std.specs.Prelude.{◌≡◌, ℕ, zero, suc, ◌+◌, Bool, true, false}
 use Rattle.std.specs.List.{list_all}
 use Rattle.fin_ast.specs.Value.{Numbers}
 use Rattle.fin_stage.specs.Staged.{Run, Action, repeated}

@@ -26,5 +26,5 @@ var_in (b ∷ bs) var = if nat_eq var b.var then b.number else var_in bs var
 abbrev pub marks_of : List Gap → List Known → List Bound → Marks
 marks_of gaps known bound = record { reads = gap_in gaps; tests = test_in known; vars = var_in bound }
 
-abbrev pub marks_in : Facts → Marks
-marks_in f = marks_of f.gaps.now f.known.now f.bound.now
+abbrev pub marks : Facts → Marks
+marks f = marks_of f.gaps.now f.known.now f.bound.now

@@ -17,7 +17,8 @@ pub record SeenSame (a b : Sight) : Type 0 where
   pub varies : a.varies ≡ b.varies
 
 abbrev pub SightsLast : Type 0
-SightsLast = (i : Index) (n : ℕ) (stand : Stand) (z : ℤ) → IsInside i n z → IsInside i n (z +ℤ pos 1) → (sight_at i n stand z).ends ≡ false → SeenSame (sight_at i n stand z) (sight_at i n stand (z +ℤ pos 1))
+SightsLast = (i : Index) (n : ℕ) (stand : Stand) (z : ℤ) → IsInside i n z
+    → IsInside i n (z +ℤ pos 1) → (sight_at i n stand z).ends ≡ false → SeenSame (sight_at i n stand z) (sight_at i n stand (z +ℤ pos 1))
 
 -- a driven read moves by one with the variable, and stands inside at both coordinates
 pub record MovesInside (vars : Numbers) (var c : ℕ) (d : Driven) : Type 0 where
@@ -37,7 +38,9 @@ pub record KnownSame (a b : Marks) : Type 0 where
 -- the same is known, and the same driven reads vary
 pub record LastsTo (e : Entered) (vars : Numbers) (m : Marks) (c : ℕ) : Type 0 where
   pub known : KnownSame (marks_at e vars m c) (marks_at e vars m (c + 1))
-  pub varies : (d : Driven) → MovesInside vars e.var c d → (sight_of vars e.var c d).ends ≡ false → (sight_of vars e.var c d).varies ≡ (sight_of vars e.var (c + 1) d).varies
+  pub varies : (d : Driven) → MovesInside vars e.var c d
+      → (sight_of vars e.var c d).ends ≡ false → (sight_of vars e.var c d).varies ≡ (sight_of vars e.var (c + 1) d).varies
 
 abbrev pub KnownLasts : Type 0
-KnownLasts = (e : Entered) (vars : Numbers) (m : Marks) (c : ℕ) → AllMove vars e.var c e.driven → list_all (λ (k : Mask). is_comparison k.op) e.masks ≡ true → ends_after e vars c ≡ false → LastsTo e vars m c
+KnownLasts = (e : Entered) (vars : Numbers) (m : Marks) (c : ℕ)
+    → AllMove vars e.var c e.driven → list_all (λ (k : Mask). is_comparison k.op) e.masks ≡ true → ends_after e vars c ≡ false → LastsTo e vars m c

@@ -5,6 +5,8 @@ use Rattle.fin_tensor.specs.TensorFunction.{TensorFunction, IsTensor}
 use Rattle.fin_ast.specs.declared.tree.Stmt.{Stmt}
 use Rattle.fin_ast.specs.Value.{Numbers}
 use Rattle.fin_ast.specs.Dense.{Made, Setting, State, fill_of, range_of, run_all}
+use Rattle.fin_stage.specs.Stages.{function_in}
+use Rattle.fin_stage.specs.Staged.{Run, stage_all, regular}
 use Rattle.fin_simp.specs.Numbered.{Here}
 use Rattle.fin_simp.specs.Left.{Marks}
 use Rattle.fin_simp.specs.Simplified.{simplified_all}
@@ -55,3 +57,23 @@ NothingIsLeft = (body : List Stmt) (h : Here) (m : Marks) → (are_nothing body 
 abbrev pub NothingStaysNothing : Type 0
 NothingStaysNothing = (body : List Stmt) (h : Here) (m m' : Marks) → all_hold (map is_worded_stmt body) ≡ true → KnowsWords m' → Further m m'
     → are_nothing body h m ≡ true → are_nothing body h m' ≡ true
+
+-- ---- over the run by stages
+
+-- the functions of the tensors in a run by stages
+abbrev pub made_in : Run → Made
+made_in r = map function_in r.stages
+
+abbrev pub state_of : Run → State
+state_of r = record { made = made_in r; turns = 0 }
+
+-- the simplified body makes what the body makes, where each statement of the one and of the other is asked for what it can do
+abbrev pub SimplifiedStagesTheSame : Type 0
+SimplifiedStagesTheSame = (w : Setting) (body : List Stmt) (h : Here) (m : Marks) (vars : Numbers) (r : Run) → IsMarkedWell w body h m vars (state_of r)
+    → regular (stage_all w body vars r) ≡ true → regular (stage_all w (simplified_all body h m) vars r) ≡ true
+    → made_in (stage_all w (simplified_all body h m) vars r) ≡ made_in (stage_all w body vars r)
+
+-- a body that is nothing makes nothing
+abbrev pub NothingStagesNothing : Type 0
+NothingStagesNothing = (w : Setting) (body : List Stmt) (h : Here) (m : Marks) (vars : Numbers) (r : Run) → IsMarkedWell w body h m vars (state_of r)
+    → regular (stage_all w body vars r) ≡ true → are_nothing body h m ≡ true → made_in (stage_all w body vars r) ≡ made_in r

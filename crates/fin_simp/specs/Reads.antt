@@ -1,5 +1,6 @@
 -- The reads that remain of a statement, by their numbers, without making what is left of it.
 use Rattle.std.specs.Prelude.{ℕ, ℤ, Bool, true, false, ◌&&◌, ◌||◌, if◌then◌else◌, List, [], ◌∷◌, ◌++◌, Option, Some, None}
+use Rattle.fin_base.specs.declared.terms.Op.{Op}
 use Rattle.fin_ast.specs.declared.tree.Expr.{Expr}
 use Rattle.fin_ast.specs.declared.tree.Expr.TheOpen.{Expr-F}
 use Rattle.fin_ast.specs.declared.tree.Stmt.{Stmt}
@@ -18,12 +19,16 @@ unless_known (Some n) reads = []
 abbrev pub reading : Option ℤ → List ℕ → ExprReads
 reading literal reads = record { literal = literal; reads = unless_known literal reads }
 
+-- of an operator's two sides
+abbrev pub both : Op → ExprReads → ExprReads → ExprReads
+both o a b = reading (joined_literal o a.literal b.literal) (a.reads ++ b.reads)
+
 abbrev pub expr_step : ℕ → Expr-F (Marks → ExprReads) → Marks → ExprReads
 expr_step k (Expr-F.Num n) m = reading (Some n) []
 expr_step k (Expr-F.Var var line) m = reading (m.vars var) []
 expr_step k (Expr-F.Read tensor at line) m = reading (m.reads k) (k ∷ [])
 expr_step k (Expr-F.Neg inner) m = reading (turned_literal (inner m).literal) (inner m).reads
-expr_step k (Expr-F.Two o left right) m = reading (joined_literal o (left m).literal (right m).literal) ((left m).reads ++ (right m).reads)
+expr_step k (Expr-F.Two o left right) m = both o (left m) (right m)
 
 -- of an expression whose first read has that number
 abbrev pub reads_of_expr : Expr → ℕ → Marks → ExprReads

@@ -199,7 +199,8 @@ is_one_update Other = false
 
 -- a single update that is the same at each coordinate of the piece
 abbrev pub is_fixed : Entered → Numbers → Rest → ℕ → Bool
-is_fixed e vars rest c = is_one_update rest.kind && not (is_in rest.vars e.var) && list_all (λ i. not (names_var e.var i)) rest.targets && list_all (λ (a : Access). not (varies_among e.driven (sight_of vars e.var c) a.read)) rest.reads
+is_fixed e vars rest c =
+    is_one_update rest.kind && not (is_in rest.vars e.var) && list_all (λ i. not (names_var e.var i)) rest.targets && list_all (λ (a : Access). not (varies_among e.driven (sight_of vars e.var c) a.read)) rest.reads
 
 -- with its work, in place of the work that was done
 abbrev pub costing : ℕ → Run → Run → Run

@@ -1,9 +1,14 @@
-//! Simplification: what is left of a statement where some of its reads and tests are known.
+//! Simplification, and the work of a program by the pieces of its loops.
 //!
-//! `simplify` gives the statement that is left, or none; `is_nothing` tells beforehand whether one is left, and makes no
-//! tree. The laws: where each read that is known has its value, and each test that is known holds or fails as it is said,
-//! a body and what is left of it make the same by dense evaluation; a body of which nothing is left makes nothing; and
-//! nothing is left of it where more is known.
+//! `simplify` gives what is left of a statement where some of its reads and tests are known, or nothing; `is_nothing`
+//! tells whether anything is left, `reads_of` which reads remain, and they make no tree. Where each read that is known
+//! has its value, and each test that is known holds or fails as it is said, a body and what is left of it make the same
+//! by dense evaluation; a body of which nothing is left makes nothing; and nothing is left of it where more is known.
+//! Over the run by stages that holds where each statement is asked for what it can do.
+//!
+//! `specs/Work.antt` defines the work beside the run by stages: a piece's cost is shared out to its coordinates.
+//! Where no piece ends after a coordinate, the same is known at the next one, so that the shares of a piece's
+//! coordinates make its cost.
 #![tactic(auto)]
 
 mod facts;
@@ -15,8 +20,9 @@ mod rewrite;
 mod spine;
 
 pub use facts::{Bound, Facts, Gap, Known};
-pub use laws::{known_lasts, pieces_cost, 
-    nothing_is_left, nothing_makes_nothing, nothing_stays_nothing, simplified_means_the_same,
+pub use laws::{
+    known_lasts, nothing_is_left, nothing_makes_nothing, nothing_stages_nothing,
+    nothing_stays_nothing, pieces_cost, simplified_means_the_same, simplified_stages_the_same,
 };
 pub use nothing::{Seen, are_nothing, is_nothing};
 pub use reads::{ExprReads, ExprWalk, StmtReads, StmtWalk, reads_of, reads_of_all, reads_of_expr};

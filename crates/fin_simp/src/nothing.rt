@@ -3,7 +3,7 @@ ghost use Rattle.std.specs.Prelude.{◌≡◌, ◌+◌, ◌||◌, ◌&&◌, ◌�
 ghost use Rattle.fin_simp.specs.Left as left;
 ghost use Rattle.fin_simp.specs.Numbered.{past_stmt, past_all, here_at};
 ghost use Rattle.fin_simp.specs.Remaining as spec;
-ghost use Rattle.fin_simp.specs.Facts.{marks_in};
+ghost use Rattle.fin_simp.specs.Facts.{marks};
 
 use crate::facts::{Facts, next_number, test_of, with_bound};
 use crate::spine::literal;
@@ -76,7 +76,7 @@ pub fn is_nothing(
     read: u32,
     test: u32,
 ) -> Result<Seen, AllocError>
-    ensures nothing { IfOk result (λ v. v.nothing ≡ spec.is_nothing s.now (here_at read test) (marks_in facts.now)) }
+    ensures nothing { IfOk result (λ v. v.nothing ≡ spec.is_nothing s.now (here_at read test) (marks facts.now)) }
     ensures past { IfOk result (λ v. here_at v.read v.test ≡ past_stmt s.now (here_at read test)) }
 {
     match s {
@@ -158,7 +158,7 @@ pub fn are_nothing(
     read: u32,
     test: u32,
 ) -> Result<Seen, AllocError>
-    ensures nothing { IfOk result (λ v. v.nothing ≡ spec.are_nothing body.now (here_at read test) (marks_in facts.now)) }
+    ensures nothing { IfOk result (λ v. v.nothing ≡ spec.are_nothing body.now (here_at read test) (marks facts.now)) }
     ensures past { IfOk result (λ v. here_at v.read v.test ≡ past_all (map past_stmt body.now) (here_at read test)) }
 {
     let mut all = seeing(true, read, test);

@@ -1,7 +1,7 @@
 //! The reads that remain of a statement.
 ghost use Rattle.std.specs.Prelude.{◌≡◌, [], IfOk, ◌||◌, map};
 ghost use Rattle.fin_ast.specs.Spine.{expr_of};
-ghost use Rattle.fin_simp.specs.Facts.{marks_in};
+ghost use Rattle.fin_simp.specs.Facts.{marks};
 ghost use Rattle.fin_simp.specs.Numbered.{here_at, past_all, past_expr, past_stmt};
 ghost use Rattle.fin_simp.specs.Reads as spec;
 ghost use Rattle.fin_simp.specs.Remaining.{joined_literal};
@@ -46,8 +46,13 @@ pub struct StmtWalk {
 
 /// The reads that remain of an expression, whose first read has this number.
 #[cycle(expr_reads)]
-pub fn reads_of_expr(alloc: Global, e: &Expr, facts: &Facts<'_>, next: u32) -> Result<ExprWalk, AllocError>
-    ensures found { IfOk result (λ w. w.found ≡ spec.reads_of_expr e.now next (marks_in facts.now)) }
+pub fn reads_of_expr(
+    alloc: Global,
+    e: &Expr,
+    facts: &Facts<'_>,
+    next: u32,
+) -> Result<ExprWalk, AllocError>
+    ensures found { IfOk result (λ w. w.found ≡ spec.reads_of_expr e.now next (marks facts.now)) }
     ensures next { IfOk result (λ w. w.next ≡ past_expr e.now next) }
 {
     let spine = e.spine(alloc)?;
@@ -64,8 +69,13 @@ pub fn reads_of_expr(alloc: Global, e: &Expr, facts: &Facts<'_>, next: u32) -> R
 }
 
 #[cycle(expr_reads)]
-fn reads_of_head(alloc: Global, head: Head<'_>, facts: &Facts<'_>, next: u32) -> Result<ExprWalk, AllocError>
-    ensures found { IfOk result (λ w. w.found ≡ spec.reads_of_expr (expr_of head.entry) next (marks_in facts.now)) }
+fn reads_of_head(
+    alloc: Global,
+    head: Head<'_>,
+    facts: &Facts<'_>,
+    next: u32,
+) -> Result<ExprWalk, AllocError>
+    ensures found { IfOk result (λ w. w.found ≡ spec.reads_of_expr (expr_of head.entry) next (marks facts.now)) }
     ensures next { IfOk result (λ w. w.next ≡ past_expr (expr_of head.entry) next) }
 {
     match head {
@@ -95,10 +105,7 @@ fn walked(found: ExprReads, next: u32) -> ExprWalk
     ensures found { result.found ≡ found }
     ensures next { result.next ≡ next }
 {
-    ExprWalk {
-        found,
-        next,
-    }
+    ExprWalk { found, next }
 }
 
 fn reading(alloc: Global, literal: Option<i64>, reads: Items<u32>) -> ExprReads
@@ -117,9 +124,7 @@ fn reading(alloc: Global, literal: Option<i64>, reads: Items<u32>) -> ExprReads
 }
 
 fn both(alloc: Global, op: Op, left: ExprReads, right: ExprReads) -> Result<ExprReads, AllocError>
-    ensures {
-        IfOk result (λ r. r ≡ spec.reading (joined_literal op left.literal right.literal) (left.reads ++ right.reads))
-    }
+    ensures { IfOk result (λ r. r ≡ spec.both op left right) }
 {
     let mut reads = left.reads;
     reads.append(right.reads)?;
@@ -135,7 +140,7 @@ pub fn reads_of(
     read: u32,
     test: u32,
 ) -> Result<StmtWalk, AllocError>
-    ensures found { IfOk result (λ w. w.found ≡ spec.reads_of s.now (here_at read test) (marks_in facts.now)) }
+    ensures found { IfOk result (λ w. w.found ≡ spec.reads_of s.now (here_at read test) (marks facts.now)) }
     ensures past { IfOk result (λ w. here_at w.read w.test ≡ past_stmt s.now (here_at read test)) }
 {
     match s {
@@ -207,7 +212,12 @@ pub fn reads_of(
         } => {
             let value = reads_of_expr(alloc, value, facts, read)?;
             let behind = without_reads(alloc, false, value.next, test);
-            within(alloc, is_identity(*by, value.found.literal), value.found.reads, behind)
+            within(
+                alloc,
+                is_identity(*by, value.found.literal),
+                value.found.reads,
+                behind,
+            )
         }
     }
 }
@@ -221,7 +231,7 @@ pub fn reads_of_all(
     read: u32,
     test: u32,
 ) -> Result<StmtWalk, AllocError>
-    ensures found { IfOk result (λ w. w.found ≡ spec.reads_of_all body.now (here_at read test) (marks_in facts.now)) }
+    ensures found { IfOk result (λ w. w.found ≡ spec.reads_of_all body.now (here_at read test) (marks facts.now)) }
     ensures past { IfOk result (λ w. here_at w.read w.test ≡ past_all (map past_stmt body.now) (here_at read test)) }
 {
     let mut nothing = true;
@@ -243,11 +253,7 @@ fn walking(found: StmtReads, read: u32, test: u32) -> StmtWalk
     ensures read { result.read ≡ read }
     ensures test { result.test ≡ test }
 {
-    StmtWalk {
-        found,
-        read,
-        test,
-    }
+    StmtWalk { found, read, test }
 }
 
 fn without_reads(alloc: Global, nothing: bool, read: u32, test: u32) -> StmtWalk
@@ -270,7 +276,12 @@ fn unless_known(alloc: Global, literal: Option<i64>, reads: Items<u32>) -> Items
 }
 
 /// Behind reads of its own, unless it is left out.
-fn within(alloc: Global, left_out: bool, own: Items<u32>, body: StmtWalk) -> Result<StmtWalk, AllocError>
+fn within(
+    alloc: Global,
+    left_out: bool,
+    own: Items<u32>,
+    body: StmtWalk,
+) -> Result<StmtWalk, AllocError>
     ensures found { IfOk result (λ w. w.found ≡ spec.within left_out own body.found) }
     ensures read { IfOk result (λ w. w.read ≡ body.read) }
     ensures test { IfOk result (λ w. w.test ≡ body.test) }
@@ -280,5 +291,12 @@ fn within(alloc: Global, left_out: bool, own: Items<u32>, body: StmtWalk) -> Res
     }
     let mut reads = own;
     reads.append(body.found.reads)?;
-    Ok(walking(StmtReads { nothing: false, reads }, body.read, body.test))
+    Ok(walking(
+        StmtReads {
+            nothing: false,
+            reads,
+        },
+        body.read,
+        body.test,
+    ))
 }

@@ -3,7 +3,7 @@ ghost use Rattle.std.specs.Prelude.{◌≡◌, ◌+◌, IfOk};
 ghost use Rattle.fin_ast.specs.Spine.{expr_of};
 ghost use Rattle.fin_ast.specs.declared.tree.Expr.TheVariants.{Read, Two};
 ghost use Rattle.fin_simp.specs.declared.remainder.Left.TheVariants.{Open};
-ghost use Rattle.fin_simp.specs.Facts.{marks_in};
+ghost use Rattle.fin_simp.specs.Facts.{marks};
 ghost use Rattle.fin_simp.specs.Left as spec;
 ghost use Rattle.fin_simp.specs.Numbered.{past_expr};
 
@@ -57,7 +57,7 @@ pub fn simplify_expr(
     facts: &Facts<'_>,
     next: u32,
 ) -> Result<Remainder, AllocError>
-    ensures left { IfOk result (λ r. r.left ≡ spec.left_of e.now next (marks_in facts.now)) }
+    ensures left { IfOk result (λ r. r.left ≡ spec.left_of e.now next (marks facts.now)) }
     ensures next { IfOk result (λ r. r.next ≡ past_expr e.now next) }
 {
     let spine = e.spine(alloc)?;
@@ -80,7 +80,7 @@ fn simplify_head(
     facts: &Facts<'_>,
     next: u32,
 ) -> Result<Remainder, AllocError>
-    ensures left { IfOk result (λ r. r.left ≡ spec.left_of (expr_of head.entry) next (marks_in facts.now)) }
+    ensures left { IfOk result (λ r. r.left ≡ spec.left_of (expr_of head.entry) next (marks facts.now)) }
     ensures next { IfOk result (λ r. r.next ≡ past_expr (expr_of head.entry) next) }
 {
     match head {

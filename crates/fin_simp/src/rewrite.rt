@@ -1,10 +1,11 @@
 //! What is left of a statement.
 ghost use Rattle.std.specs.Prelude.{◌≡◌, [], ◌∷◌, IfOk, if◌then◌else◌, map};
 ghost use Rattle.std.specs.List.{list_any};
-ghost use Rattle.fin_simp.specs.Facts.{marks_in, marks_of};
+ghost use Rattle.fin_simp.specs.Facts.{marks, marks_of};
 ghost use Rattle.fin_simp.specs.Left.{literal_in};
 ghost use Rattle.fin_simp.specs.Numbered.{here_at, past_all, past_stmt};
 ghost use Rattle.fin_simp.specs.Simplified as spec;
+ghost use Rattle.fin_simp.specs.Simplified.{simplified, simplified_all};
 
 use crate::facts::{Bound, Facts, Gap, Known, next_number, test_of, with_bound};
 use crate::nothing::{fails, is_identity};
@@ -112,7 +113,7 @@ pub fn simplify_stmt(
     read: u32,
     test: u32,
 ) -> Result<Rewritten, AllocError>
-    ensures statements { IfOk result (λ r. r.statements ≡ spec.simplified s.now (here_at read test) (marks_in facts.now)) }
+    ensures left { IfOk result (λ r. r.statements ≡ simplified s.now (here_at read test) (marks facts.now)) }
     ensures past { IfOk result (λ r. here_at r.read r.test ≡ past_stmt s.now (here_at read test)) }
 {
     match s {
@@ -240,7 +241,7 @@ pub fn simplify_all(
     read: u32,
     test: u32,
 ) -> Result<Rewritten, AllocError>
-    ensures statements { IfOk result (λ r. r.statements ≡ spec.simplified_all body.now (here_at read test) (marks_in facts.now)) }
+    ensures left { IfOk result (λ r. r.statements ≡ simplified_all body.now (here_at read test) (marks facts.now)) }
     ensures past { IfOk result (λ r. here_at r.read r.test ≡ past_all (map past_stmt body.now) (here_at read test)) }
 {
     let mut statements = Items::new(alloc);
@@ -268,7 +269,7 @@ fn with_value(
 }
 
 fn rewriting(statements: Items<Stmt>, read: u32, test: u32) -> Rewritten
-    ensures statements { result.statements ≡ statements }
+    ensures left { result.statements ≡ statements }
     ensures read { result.read ≡ read }
     ensures test { result.test ≡ test }
 {

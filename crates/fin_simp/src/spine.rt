@@ -3,7 +3,7 @@ ghost use Rattle.std.specs.Prelude.{◌≡◌, ◌+◌, IfOk};
 ghost use Rattle.fin_ast.specs.Spine.{expr_of};
 ghost use Rattle.fin_simp.specs.Numbered.{past_expr};
 ghost use Rattle.fin_simp.specs.Remaining as spec;
-ghost use Rattle.fin_simp.specs.Facts.{marks_in};
+ghost use Rattle.fin_simp.specs.Facts.{marks};
 
 use crate::facts::{Facts, gap_of, next_number, var_of};
 use crate::remainder::absorbs;
@@ -52,7 +52,7 @@ fn finding(literal: Option<i64>, next: u32) -> Found
 }
 
 fn at_read(facts: &Facts<'_>, next: u32) -> Result<Found, AllocError>
-    ensures literal { IfOk result (λ f. f.literal ≡ (marks_in facts.now).reads next) }
+    ensures literal { IfOk result (λ f. f.literal ≡ (marks facts.now).reads next) }
     ensures next { IfOk result (λ f. f.next ≡ next + 1) }
 {
     let behind = next_number(next)?;
@@ -63,7 +63,7 @@ fn at_read(facts: &Facts<'_>, next: u32) -> Result<Found, AllocError>
 /// groups to the left: a loop and no recursion there.
 #[cycle(literals)]
 pub fn literal(alloc: Global, e: &Expr, facts: &Facts<'_>, next: u32) -> Result<Found, AllocError>
-    ensures literal { IfOk result (λ f. f.literal ≡ spec.literal_of e.now next (marks_in facts.now)) }
+    ensures literal { IfOk result (λ f. f.literal ≡ spec.literal_of e.now next (marks facts.now)) }
     ensures next { IfOk result (λ f. f.next ≡ past_expr e.now next) }
 {
     let spine = e.spine(alloc)?;
@@ -83,7 +83,7 @@ fn head_literal(
     facts: &Facts<'_>,
     next: u32,
 ) -> Result<Found, AllocError>
-    ensures literal { IfOk result (λ f. f.literal ≡ spec.literal_of (expr_of head.entry) next (marks_in facts.now)) }
+    ensures literal { IfOk result (λ f. f.literal ≡ spec.literal_of (expr_of head.entry) next (marks facts.now)) }
     ensures next { IfOk result (λ f. f.next ≡ past_expr (expr_of head.entry) next) }
 {
     match head {

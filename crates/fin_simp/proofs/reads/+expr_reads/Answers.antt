@@ -1,7 +1,7 @@
 use Rattle.std.proofs.Common.{arith}
 use Rattle.fin_ast.proofs.Spines.{side_is_smaller, goes_up}
-use Rattle.fin_simp.specs.Facts.{marks_in}
-use Rattle.fin_simp.proofs.Winding.{IsRead, read_by_two}
+use Rattle.fin_simp.specs.Facts.{marks}
+use Rattle.fin_simp.proofs.Sides.{IsRead, read_by_two}
 use Rattle.fin_simp.proofs.reads.+expr_reads.Goals as goal
 
 pub reads_of_expr-reads_of_expr-requires : goal.reads_of_expr-reads_of_expr-requires
@@ -11,7 +11,7 @@ reads_of_expr-reads_of_expr-requires t c =
 
 pub reads_of_expr-loop-op-preserved : goal.reads_of_expr-loop-op-preserved
 reads_of_expr-loop-op-preserved t c =
-    let m = marks_in c.args.facts.now in
+    let m = marks c.args.facts.now in
     goes_up c.args.e.now c.loop-op.sides.items c.pop.new.self.items c.in-Some.op c.in-Some.right _ (IsRead c.in_ok-found.found c.in_ok-right.right.next c.args.next m) c.loop-op.invariant c.in-Some.ensures.items
     (λ x q. read_by_two c.in-Some.op x c.in-Some.right.now c.loop-op.found c.in_ok-right.right.found c.in_ok-found.found c.loop-op.at c.in_ok-right.right.next c.args.next m
     q c.in_ok-right.ensures.found c.in_ok-found.ensures c.in_ok-right.ensures.next)

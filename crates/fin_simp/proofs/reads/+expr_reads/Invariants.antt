@@ -2,7 +2,7 @@ use Rattle.std.proofs.Common.{◌*◌, ◌+◌, length}
 use Rattle.fin_ast.specs.Spine.{expr_of, nodes_of}
 use Rattle.fin_ast.proofs.Spines.{IsUp}
 use Rattle.fin_simp.specs.Facts.{marks_of}
-use Rattle.fin_simp.proofs.Winding.{IsRead}
+use Rattle.fin_simp.proofs.Sides.{IsRead}
 use Rattle.fin_simp.proofs.reads.+expr_reads.Given as goal
 
 abbrev pub invariant-reads_of_expr-loop-op : goal.invariant-reads_of_expr-loop-op

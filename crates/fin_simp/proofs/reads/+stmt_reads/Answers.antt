@@ -1,14 +1,13 @@
-use Rattle.std.proofs.Common.{◌∙◌}
 use Rattle.std.proofs.lemmas.Result.{IfOk-weaker}
 use Rattle.fin_simp.specs.Numbered.{here_at}
-use Rattle.fin_simp.specs.Facts.{marks_in}
+use Rattle.fin_simp.specs.Facts.{marks}
 use Rattle.fin_simp.specs.declared.reads.StmtWalk.{StmtWalk}
 use Rattle.fin_simp.proofs.Reading.{block_reads, loop_reads, cond_reads, bind_reads}
 use Rattle.fin_simp.proofs.reads.+stmt_reads.Goals as goal
 
 pub reads_of-returns-in-Block-clause-found : goal.reads_of-returns-in-Block-clause-found
 reads_of-returns-in-Block-clause-found t c =
-    IfOk-weaker _ _ _ (λ (w : StmtWalk) e. block_reads c.args.s.now c.in-Block.body c.as_slice.result.now c.in-Block.line c.in-Block.last (here_at c.args.read c.args.test) (marks_in c.args.facts.now) w.found c.in-Block.is c.as_slice.ensures e) c.reads_of_all.ensures.found
+    IfOk-weaker _ _ _ (λ (w : StmtWalk) e. block_reads c.args.s.now c.in-Block.body c.as_slice.result.now c.in-Block.line c.in-Block.last (here_at c.args.read c.args.test) (marks c.args.facts.now) w.found c.in-Block.is c.as_slice.ensures e) c.reads_of_all.ensures.found
 
 pub reads_of-returns-in_ok-body-in-Loop-clause-found : goal.reads_of-returns-in_ok-body-in-Loop-clause-found
 reads_of-returns-in_ok-body-in-Loop-clause-found t c =

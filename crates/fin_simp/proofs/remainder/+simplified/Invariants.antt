@@ -2,7 +2,7 @@ use Rattle.std.proofs.Common.{◌*◌, ◌+◌, length}
 use Rattle.fin_ast.specs.Spine.{expr_of, nodes_of}
 use Rattle.fin_ast.proofs.Spines.{IsUp}
 use Rattle.fin_simp.specs.Facts.{marks_of}
-use Rattle.fin_simp.proofs.Winding.{IsLeft}
+use Rattle.fin_simp.proofs.Sides.{IsLeft}
 use Rattle.fin_simp.proofs.remainder.+simplified.Given as goal
 
 abbrev pub invariant-simplify_expr-loop-op : goal.invariant-simplify_expr-loop-op

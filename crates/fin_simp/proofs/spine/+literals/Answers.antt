@@ -1,7 +1,7 @@
 use Rattle.std.proofs.Common.{arith, ◌∙◌}
 use Rattle.fin_ast.proofs.Spines.{side_is_smaller, goes_up}
 use Rattle.fin_simp.specs.Facts.{marks_of}
-use Rattle.fin_simp.proofs.Winding.{IsFound, found_two}
+use Rattle.fin_simp.proofs.Sides.{IsFound, found_two}
 use Rattle.fin_simp.proofs.spine.+literals.Goals as goal
 
 pub literal-literal-requires : goal.literal-literal-requires

@@ -2,7 +2,7 @@ use Rattle.std.proofs.Common.{◌*◌, ◌+◌, length}
 use Rattle.fin_ast.specs.Spine.{expr_of, nodes_of}
 use Rattle.fin_ast.proofs.Spines.{IsUp}
 use Rattle.fin_simp.specs.Facts.{marks_of}
-use Rattle.fin_simp.proofs.Winding.{IsFound}
+use Rattle.fin_simp.proofs.Sides.{IsFound}
 use Rattle.fin_simp.proofs.spine.+literals.Given as goal
 
 abbrev pub invariant-literal-loop-op : goal.invariant-literal-loop-op

@@ -1,4 +1,4 @@
--- The literal that is left of an operator's two sides, and the number behind them.
+-- What an operator leaves of its two sides: a literal, an expression, the reads that remain.
 use Rattle.std.proofs.Common.{◌≡◌, ◌++◌, ℕ, ℤ, Option, sym, ap, ◌∙◌}
 use Rattle.fin_base.specs.declared.terms.Op.{Op}
 use Rattle.fin_ast.specs.declared.tree.Expr.{Expr}
@@ -9,7 +9,7 @@ use Rattle.fin_simp.specs.declared.remainder.Left.{Left}
 use Rattle.fin_simp.specs.Left.{Marks, joined, left_step, left_of}
 use Rattle.fin_simp.specs.Remaining.{joined_literal, literal_step, literal_of}
 use Rattle.fin_simp.specs.declared.reads.ExprReads.{ExprReads}
-use Rattle.fin_simp.specs.Reads.{reading, expr_step, reads_of_expr}
+use Rattle.fin_simp.specs.Reads.{both as both_sides, reading, expr_step, reads_of_expr}
 use Rattle.fin_simp.proofs.Equations.{at_two}
 
 pub literal_two : (o : Op) (x y : Expr) (k : ℕ) (m : Marks) → literal_of (Two o x y) k m ≡ joined_literal o (literal_of x k m) (literal_of y (past_expr x k) m)
@@ -43,18 +43,15 @@ left_by_two o x y left right both next behind k m first second joins past = (
 )
 
 -- ---- the reads that remain of an operator's sides
-pub reads_two : (o : Op) (x y : Expr) (k : ℕ) (m : Marks) → reads_of_expr (Two o x y) k m ≡ reading (joined_literal o (reads_of_expr x k m).literal (reads_of_expr y (past_expr x k) m).literal) ((reads_of_expr x k m).reads ++ (reads_of_expr y (past_expr x k) m).reads)
+pub reads_two : (o : Op) (x y : Expr) (k : ℕ) (m : Marks) → reads_of_expr (Two o x y) k m ≡ both_sides o (reads_of_expr x k m) (reads_of_expr y (past_expr x k) m)
 reads_two o x y k m = ap (λ (f : Marks → ExprReads). f m) (at_two (Marks → ExprReads) expr_step o x y k)
-
-abbrev pub both_reads : Op → ExprReads → ExprReads → ExprReads
-both_reads o a b = reading (joined_literal o a.literal b.literal) (a.reads ++ b.reads)
 
 -- the reads that remain of a part of an expression, and the number behind it
 abbrev pub IsRead : ExprReads → ℕ → ℕ → Marks → Expr → Type 0
 IsRead found next k m x = (found ≡ reads_of_expr x k m) × (next ≡ past_expr x k)
 
-pub read_by_two : (o : Op) (x y : Expr) (left right both : ExprReads) (next behind k : ℕ) (m : Marks) → IsRead left next k m x → right ≡ reads_of_expr y next m → both ≡ both_reads o left right → behind ≡ past_expr y next → IsRead both behind k m (Two o x y)
+pub read_by_two : (o : Op) (x y : Expr) (left right both : ExprReads) (next behind k : ℕ) (m : Marks) → IsRead left next k m x → right ≡ reads_of_expr y next m → both ≡ both_sides o left right → behind ≡ past_expr y next → IsRead both behind k m (Two o x y)
 read_by_two o x y left right both next behind k m first second joins past = (
-  joins ∙ ap (λ (a : ExprReads). both_reads o a right) first.0 ∙ ap (both_reads o (reads_of_expr x k m)) (second ∙ ap (λ (j : ℕ). reads_of_expr y j m) first.1) ∙ sym (reads_two o x y k m),
+  joins ∙ ap (λ (a : ExprReads). both_sides o a right) first.0 ∙ ap (both_sides o (reads_of_expr x k m)) (second ∙ ap (λ (j : ℕ). reads_of_expr y j m) first.1) ∙ sym (reads_two o x y k m),
   past ∙ ap (past_expr y) first.1 ∙ sym (past_two o x y k),
 )
