@@ -30,7 +30,8 @@ ReachIsNear = (i z : ℤ) → pos 0 ≤ℤ i → i ≤ℤ pos (2 ^ 40) → Reach
 pub record CutKeeps : Type 0 where
   pub shows : (ts : Store) (ls : List ℤ) (l : Looplet) (e : IExpr) (end i : ℤ) → Near i → i <ℤ value ts ls e → SoundWithin Near ts ls l (λ j. j <ℤ value ts ls e) i
       → Like ((i +ℤ pos 1) <ℤ value ts ls e) (view ts ls (cut e l) end i) (view ts ls l (value ts ls e) i)
-  pub sound : (ts : Store) (ls : List ℤ) (l : Looplet) (e : IExpr) (hi i : ℤ) → Near i → i <ℤ value ts ls e → SoundWithin Near ts ls l (λ j. j <ℤ hi) i → SoundWithin Near ts ls (cut e l) (λ j. j <ℤ hi) i
+  pub sound : (ts : Store) (ls : List ℤ) (l : Looplet) (e : IExpr) (hi i : ℤ) → Near i → i <ℤ value ts ls e → SoundWithin Near ts ls l (λ j. j <ℤ hi) i
+      → SoundWithin Near ts ls (cut e l) (λ j. j <ℤ hi) i
   pub free : (x : ℕ) (l : Looplet) (e : IExpr) → Free x (cut e l) → Names x e ⊎ Free x l
   pub loads : (t : ℕ) (l : Looplet) (e : IExpr) → LoadsIn t (cut e l) → Loads t e ⊎ LoadsIn t l
   pub owns : (x : ℕ) (l : Looplet) (e : IExpr) → Owns x (cut e l) → Owns x l
@@ -46,9 +47,11 @@ pub record CanMove (ls : List ℤ) (by : IExpr) (l : Looplet) : Type 0 where
 -- A looplet that is moved shows what it showed at the coordinate less the distance, and is sound where it was. It depends
 -- on nothing but the distance and what it depended on, owns no further local, has no shift, and isn't heavier.
 pub record MovedKeeps : Type 0 where
-  pub shows : (ts : Store) (ls : List ℤ) (l : Looplet) (by : IExpr) (end hi i : ℤ) → Near i → Near (i -ℤ value ts ls by) → CanMove ls by l → SoundWithin Near ts ls l (λ j. j <ℤ hi) (i -ℤ value ts ls by)
+  pub shows : (ts : Store) (ls : List ℤ) (l : Looplet) (by : IExpr) (end hi i : ℤ)
+      → Near i → Near (i -ℤ value ts ls by) → CanMove ls by l → SoundWithin Near ts ls l (λ j. j <ℤ hi) (i -ℤ value ts ls by)
       → view ts ls (moved by l) end i ≡ view ts ls l (end -ℤ value ts ls by) (i -ℤ value ts ls by)
-  pub sound : (ts : Store) (ls : List ℤ) (l : Looplet) (by : IExpr) (hi i : ℤ) → Near i → Near (i -ℤ value ts ls by) → CanMove ls by l → SoundWithin Near ts ls l (λ j. j <ℤ (hi -ℤ value ts ls by)) (i -ℤ value ts ls by)
+  pub sound : (ts : Store) (ls : List ℤ) (l : Looplet) (by : IExpr) (hi i : ℤ)
+      → Near i → Near (i -ℤ value ts ls by) → CanMove ls by l → SoundWithin Near ts ls l (λ j. j <ℤ (hi -ℤ value ts ls by)) (i -ℤ value ts ls by)
       → SoundWithin Near ts ls (moved by l) (λ j. j <ℤ hi) i
   pub free : (x : ℕ) (by : IExpr) (l : Looplet) → Free x (moved by l) → Names x by ⊎ Free x l
   pub loads : (t : ℕ) (by : IExpr) (l : Looplet) → LoadsIn t (moved by l) → Loads t by ⊎ LoadsIn t l

@@ -3,7 +3,8 @@
 //! A `Looplet` says in one value how the leaves of a fibre, a mask or a shifted fibre follow one another: runs, spikes,
 //! lookups, sequences, walkers, choices and shifts. `specs/` says what it means: at each coordinate of a region what is
 //! seen there, whether that varies, and whether a part or a walker's child ends behind it; when it is sound; which locals
-//! and tensors it depends on; and what it weighs. Here stand the types, with equal copies.
+//! and tensors it depends on; and what it weighs. Here stand the types, with equal copies; `cut`, for a region that ends
+//! before, and `moved`, for coordinates that are shifted, with what both keep; and whether looplets weigh nothing.
 #![tactic(auto)]
 
 mod copy;
