@@ -1,7 +1,7 @@
 //! Fibres, masks and shifts: what is seen at each coordinate from 0 on.
 ghost use Rattle.std.specs.Prelude.{◌≤◌, ◌^◌};
 
-use crate::looks::{Lists, look};
+use crate::looks::{Lists, Spot, look};
 use fin_base::{Op, Proto};
 use fin_ir::IExpr;
 use fin_looplet::Looplet;
@@ -32,23 +32,57 @@ fn fibre(alloc: Global, level: Level, extent: u64, there: i64) -> Result<Looplet
         wrap: Wrap::Bare,
         fill: FILL,
     };
-    unfurl(alloc, &format, 0, 0, Proto::Walk, extent, IExpr::Num(0), IExpr::Num(there), 0)
+    unfurl(
+        alloc,
+        &format,
+        0,
+        0,
+        Proto::Walk,
+        extent,
+        IExpr::Num(0),
+        IExpr::Num(there),
+        0,
+    )
 }
 
 fn sees(rt: &impl Abort, lists: &Lists, l: &Looplet, wanted: &[i64]) {
-    let mut locals = [0; 2];
     for (at, value) in wanted.iter().enumerate() {
-        assert_eq!(rt; look(lists, &mut locals, l, wanted.len() as i64, at as i64), *value, "at {at}");
+        let spot = Spot {
+            at: at as i64,
+            end: wanted.len() as i64,
+            cursor: 0,
+            coordinate: 0,
+        };
+        assert_eq!(rt; look(lists, spot, l), *value, "at {at}");
     }
 }
 
 #[test]
 fn fibres(rt: HostRuntime) -> Result<(), Fail> {
     let alloc = rt.alloc();
-    let list = Lists { ptr: &[0, 2], idx: &[0, 2], val: &[5, 6], ..NONE };
-    let block = Lists { ptr: &[0, 3], start: &[2], val: &[4, 0, 5], ..NONE };
-    let empty = Lists { ptr: &[0, 0], start: &[2], ..NONE };
-    let runs = Lists { ptr: &[0, 2], stop: &[1, 4], val: &[3, 9], ..NONE };
+    let list = Lists {
+        ptr: &[0, 2],
+        idx: &[0, 2],
+        val: &[5, 6],
+        ..NONE
+    };
+    let block = Lists {
+        ptr: &[0, 3],
+        start: &[2],
+        val: &[4, 0, 5],
+        ..NONE
+    };
+    let empty = Lists {
+        ptr: &[0, 0],
+        start: &[2],
+        ..NONE
+    };
+    let runs = Lists {
+        ptr: &[0, 2],
+        stop: &[1, 4],
+        val: &[3, 9],
+        ..NONE
+    };
     let rows: [(Level, &Lists, i64, &[i64]); 6] = [
         (Level::List, &list, 1, &[5, FILL, 6, FILL]),
         (Level::Dict, &list, 0, &[FILL, FILL, FILL, FILL]),
@@ -84,7 +118,12 @@ fn masks(rt: HostRuntime) -> Result<(), Fail> {
 #[test]
 fn shifts(rt: HostRuntime) -> Result<(), Fail> {
     let alloc = rt.alloc();
-    let list = Lists { ptr: &[0, 2], idx: &[0, 2], val: &[5, 6], ..NONE };
+    let list = Lists {
+        ptr: &[0, 2],
+        idx: &[0, 2],
+        val: &[5, 6],
+        ..NONE
+    };
     let rows: [(i64, Option<(u64, i64)>, &[i64]); 4] = [
         (1, Some((4, 8)), &[8, 5, FILL, 6, FILL, 8]),
         (-2, Some((4, 8)), &[6, FILL, 8, 8]),
@@ -92,7 +131,12 @@ fn shifts(rt: HostRuntime) -> Result<(), Fail> {
         (-1, None, &[FILL, 6, FILL]),
     ];
     for (by, edge, wanted) in rows {
-        let l = shift(alloc, fibre(alloc, Level::List, 4, 1)?, IExpr::Num(by), edge)?;
+        let l = shift(
+            alloc,
+            fibre(alloc, Level::List, 4, 1)?,
+            IExpr::Num(by),
+            edge,
+        )?;
         sees(&rt, &list, &l, wanted);
     }
     Ok(())
