@@ -20,3 +20,5 @@ mod Reading
 mod Lasting
 mod Costing
 mod Staging
+mod Comparing
+mod Matching

@@ -1,5 +1,5 @@
 -- What an operator leaves of its two sides: a literal, an expression, the reads that remain.
-use Rattle.std.proofs.Common.{◌≡◌, ◌++◌, ℕ, ℤ, Option, sym, ap, ◌∙◌}
+use Rattle.std.proofs.Common.{◌≡◌, ℕ, ℤ, Option, sym, ap, ◌∙◌}
 use Rattle.fin_base.specs.declared.terms.Op.{Op}
 use Rattle.fin_ast.specs.declared.tree.Expr.{Expr}
 use Rattle.fin_ast.specs.declared.tree.Expr.TheVariants.{Two}
@@ -9,7 +9,7 @@ use Rattle.fin_simp.specs.declared.remainder.Left.{Left}
 use Rattle.fin_simp.specs.Left.{Marks, joined, left_step, left_of}
 use Rattle.fin_simp.specs.Remaining.{joined_literal, literal_step, literal_of}
 use Rattle.fin_simp.specs.declared.reads.ExprReads.{ExprReads}
-use Rattle.fin_simp.specs.Reads.{both as both_sides, reading, expr_step, reads_of_expr}
+use Rattle.fin_simp.specs.Reads.{both as both_sides, expr_step, reads_of_expr}
 use Rattle.fin_simp.proofs.Equations.{at_two}
 
 pub literal_two : (o : Op) (x y : Expr) (k : ℕ) (m : Marks) → literal_of (Two o x y) k m ≡ joined_literal o (literal_of x k m) (literal_of y (past_expr x k) m)

@@ -5,7 +5,7 @@ use Rattle.fin_ast.specs.Value.{Numbers}
 use Rattle.fin_stage.specs.Staged.{Run, Action, repeated}
 use Rattle.fin_simp.specs.Left.{Marks}
 use Rattle.fin_simp.specs.Rest.{Rest, is_none_kind}
-use Rattle.fin_simp.specs.Work.{Mask, is_comparison, Entered, marks_at, ends_after, is_fixed, turn, turns}
+use Rattle.fin_simp.specs.Work.{Mask, is_comparison, masks_of, Entered, marks_at, ends_after, is_fixed, turn, turns}
 use Rattle.fin_simp.specs.Lasting.{AllMove}
 
 -- a loop in a run: the loop as it is entered, what is left of its body and what that does, and what is known around it
@@ -43,3 +43,7 @@ pub record PieceCosts (x : Running) (n c : ℕ) (r : Run) : Type 0 where
 
 abbrev pub PiecesCost : Type 0
 PiecesCost = (x : Running) (n c : ℕ) (r : Run) → list_all (λ (k : Mask). is_comparison k.op) x.loop.masks ≡ true → Unbroken x n c → PieceCosts x n c r
+
+-- the masks of a loop compare
+abbrev pub MasksCompare : Type 0
+MasksCompare = (vars : Numbers) (var : ℕ) (rest : Rest) → list_all (λ (k : Mask). is_comparison k.op) (masks_of vars var rest) ≡ true

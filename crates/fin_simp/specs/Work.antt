@@ -137,8 +137,16 @@ mask_by vars var test (Expr-F.Two o left right) =
     else None)
 mask_by vars var test _ = None
 
+abbrev pub and_mask : Option Mask → List Mask → List Mask
+and_mask None ms = ms
+and_mask (Some m) ms = m ∷ ms
+
+abbrev pub masks_among : Numbers → ℕ → List Test → List Mask
+masks_among vars var [] = []
+masks_among vars var (t ∷ ts) = and_mask (mask_by vars var t.test (out-Expr t.expr)) (masks_among vars var ts)
+
 abbrev pub masks_of : Numbers → ℕ → Rest → List Mask
-masks_of vars var rest = filter_map (λ (t : Test). mask_by vars var t.test (out-Expr t.expr)) rest.tests
+masks_of vars var rest = masks_among vars var rest.tests
 
 -- a piece ends before the bound and after it
 abbrev pub mask_ends : ℕ → Mask → Bool
