@@ -22,11 +22,11 @@ use Rattle.fin_stage.specs.Stages.{Stage, Absent}
 use Rattle.fin_stage.specs.Staged.{before_all}
 use Rattle.fin_stage.proofs.Fits.{absent_at, nothing_fits}
 use Rattle.fin_lower.specs.Plans.{kind_number, variables_in, heads_in, layout_of}
-use Rattle.fin_lower.specs.Lowered.{begun}
+use Rattle.fin_lower.specs.Lowered.{begun, start_of}
 use Rattle.fin_lower.proofs.Listing.{reach_least}
 use Rattle.fin_lower.proofs.Headed.{input_number, shapes_long}
 use Rattle.fin_lower.proofs.Given.{kinds_of}
-use Rattle.fin_lower.proofs.Related.{Stand, Live}
+use Rattle.fin_nest.specs.Related.{Stand, Live}
 
 -- ---- locals
 
@@ -96,7 +96,7 @@ module _ (c : Checked) (inputs : List Storage) (fits : FitHeaders c.program.head
         boxes = boxes_are c.program.headers c.dims.shapes fits.shapes inputs given_fit;
       }
 
-  pub begins : Live c inputs (unbound c.dims) (before_all c.program.headers) (begun c inputs)
+  pub begins : Live (start_of c inputs) (unbound c.dims) (before_all c.program.headers) (begun c inputs)
   begins = record {
     cut = refl;
     regular = refl;
@@ -104,7 +104,7 @@ module _ (c : Checked) (inputs : List Storage) (fits : FitHeaders c.program.head
     charges = refl;
     locals = length-replicate (layout_of c).locals (pos 0);
     pinned = λ k lt. zeros_at (layout_of c).locals k ∙ sym (unbound_at c.dims.ranges k);
-    tensors = (started_fits (layout_of c) inputs inputs_fit).tensors;
+    tensors = (started_fits (layout_of c) inputs inputs_fit).tensors ∙ length-map c.program.headers (λ (x : Header). x.format);
     stages = length-map c.program.headers (λ (x : Header). Absent);
     each = λ t. subst (λ (x : Stage). Stand x (held (begun c inputs).tensors t)) (sym (absent_at c.program.headers t)) tt;
     given = λ t e. refl;

@@ -46,7 +46,8 @@ use Rattle.fin_read.proofs.Stepping.{agree_less, agree_then}
 use Rattle.fin_read.proofs.Valuing.{values_mean}
 use Rattle.fin_lower.specs.Lowering.{charge_of, count_of}
 use Rattle.fin_lower.specs.Plans.{heads_in, sides_in, layout_of}
-use Rattle.fin_lower.proofs.Related.{Live}
+use Rattle.fin_lower.specs.Lowered.{start_of}
+use Rattle.fin_nest.specs.Related.{Live}
 use Rattle.fin_lower.proofs.Seen.{all_seen}
 use Rattle.fin_lower.proofs.Placed.{declared_named, frozen_named, thawed_named, access_named, updating_named, updating_room, code_declare, code_freeze, code_thaw, code_update}
 use Rattle.fin_lower.proofs.Valued.{Asked, asked, all_append, Valued, value_goes, good, was_small}
@@ -81,7 +82,7 @@ module _ (c : Checked) (inputs : List Storage) (fits : FitHeaders c.program.head
       by_both c inputs ps _ _ _ _ e (ap (λ (x : Code). meaning (layout_of c) x m) (code_thaw (sides_in c) (length ps) tensor line))
       (thaw_goes c inputs fits given_fit counts_mean ps r m l tensor (sym (ap regular e) ∙ g))
 
-  abbrev sees : (ps : List ℤ) (r : Run) (m : Machine) → Live c inputs ps r m → SeesAll (heads_in c) (seen m) (tensors_of (setting_of c inputs) r)
+  abbrev sees : (ps : List ℤ) (r : Run) (m : Machine) → Live (start_of c inputs) ps r m → SeesAll (heads_in c) (seen m) (tensors_of (setting_of c inputs) r)
   sees ps r m l = all_seen c inputs fits given_fit ps r m l
 
   updated_goes : (tensor : ℕ) (at : List Index) (by : Reduce) (value : Expr) (line : ℕ) → Goes c inputs (s.Update tensor at by value line)

@@ -30,8 +30,9 @@ use Rattle.fin_lower.specs.Lowering.{charge_of, move_code, code_of_all}
 use Rattle.fin_lower.specs.Room.{end_of}
 use Rattle.fin_lower.specs.Plans.{heads_in, sides_in, variables_in, layout_of}
 use Rattle.fin_lower.proofs.Capped.{capped_loop}
-use Rattle.fin_lower.proofs.Related.{Live, Related}
-use Rattle.fin_lower.proofs.Pinning.{SameBut, same_but_itself, same_but_set, agree_bound, live_set}
+use Rattle.fin_lower.specs.Lowered.{start_of}
+use Rattle.fin_nest.specs.Related.{Live, Related}
+use Rattle.fin_nest.proofs.Pinning.{SameBut, same_but_itself, same_but_set, agree_bound, live_set}
 use Rattle.fin_lower.proofs.Placed.{Placed, BodyFits, loop_placed, let_placed, block_fits, loop_bound, loop_fits, cond_fits, test_named, test_room, bind_bound, bind_fits, value_named, value_room, code_block, code_loop, code_cond, code_bind}
 use Rattle.fin_lower.proofs.Valued.{Asked, asked, all_append, Valued, value_goes}
 use Rattle.fin_lower.proofs.Bodies.{Goes, body_goes}
@@ -44,8 +45,8 @@ pub wider : (c : Checked) (sc : Scope) (n k : ℕ) → n ≤ k → Placed c sc n
 wider c sc n k le p = record { headers = p.headers; within = p.within; after = omega (arith, le, p.after) }
 
 module _ (c : Checked) (inputs : List Storage) where
-  pub by_both : (ps : List ℤ) (n n' : Run) (m m' : Machine) → n ≡ n' → m ≡ m' → Related c inputs ps n' m' → Related c inputs ps n m
-  by_both ps n n' m m' e d rel = subst (λ (x : Run). Related c inputs ps x m) (sym e) (subst (Related c inputs ps n') (sym d) rel)
+  pub by_both : (ps : List ℤ) (n n' : Run) (m m' : Machine) → n ≡ n' → m ≡ m' → Related (start_of c inputs) ps n' m' → Related (start_of c inputs) ps n m
+  by_both ps n n' m m' e d rel = subst (λ (x : Run). Related (start_of c inputs) ps x m) (sym e) (subst (Related (start_of c inputs) ps n') (sym d) rel)
 
   pub block_goes : (body : List Stmt) (line last : ℕ) → AllOf (Goes c inputs) body → Goes c inputs (s.Block body line last)
   block_goes body line last all sc ps vars r m p f long same l g =
@@ -55,11 +56,11 @@ module _ (c : Checked) (inputs : List Storage) where
 
   -- a body behind a variable that was bound, with one more local in use
   inner_goes : (body : List Stmt) → AllOf (Goes c inputs) body → (sc : Scope) (next : ℕ) (ps : List ℤ) (vars : Numbers) (r : Run) (m : Machine) → length ps ≡ next
-      → Placed c sc next → BodyFits c body sc next → length vars ≡ variables_in c → Agree (variables_in c) ps vars → Live c inputs ps r m
+      → Placed c sc next → BodyFits c body sc next → length vars ≡ variables_in c → Agree (variables_in c) ps vars → Live (start_of c inputs) ps r m
       → regular (braced (stage_all (setting_of c inputs) body) vars r) ≡ true
-      → Related c inputs ps (braced (stage_all (setting_of c inputs) body) vars r) (meaning_all (layout_of c) (code_of_all (sides_in c) next body) m)
+      → Related (start_of c inputs) ps (braced (stage_all (setting_of c inputs) body) vars r) (meaning_all (layout_of c) (code_of_all (sides_in c) next body) m)
   inner_goes body all sc next ps vars r m e p f long same l g =
-      subst (λ (n : ℕ). Related c inputs ps (braced (stage_all (setting_of c inputs) body) vars r) (meaning_all (layout_of c) (code_of_all (sides_in c) n body) m)) e
+      subst (λ (n : ℕ). Related (start_of c inputs) ps (braced (stage_all (setting_of c inputs) body) vars r) (meaning_all (layout_of c) (code_of_all (sides_in c) n body) m)) e
       (body_goes c inputs body all sc ps vars r m (subst (Placed c sc) (sym e) p) (subst (BodyFits c body sc) (sym e) f) long same l g)
 
   -- ---- loops
@@ -73,7 +74,7 @@ module _ (c : Checked) (inputs : List Storage) where
       let first : var < length qs = omega (arith, lt, p.after, but.long, saved_length ps var) in
       let agree : Agree (variables_in c) words (slice_set vars var (pos v)) =
       agree_bound (variables_in c) var (pos v) qs (with_saved ps var) vars first (omega (arith, lt, long)) but (saved_agree (variables_in c) ps var vars p.after same) in
-      subst (Related c inputs words _) (sym (meaning_seq (layout_of c) (charge_of 1 ∷ code_of_all (sides_in c) (length ps + 1) body) m))
+      subst (Related (start_of c inputs) words _) (sym (meaning_seq (layout_of c) (charge_of 1 ∷ code_of_all (sides_in c) (length ps + 1) body) m))
       (inner_goes body all (within_loop sc var) (length ps + 1) words (slice_set vars var (pos v)) (worked 1 r) _ e (loop_placed c sc (length ps) var lt p) f (length-set vars var (pos v) ∙ long) agree (charged c inputs words r m 1 l) g)
 
   each_number : (var lo hi : ℕ) (turn : Code) (m : Machine) → meaning (layout_of c) (ForLoop var (Num (pos (min lo hi))) (Num (pos hi)) turn) m ≡ for_turns var (meaning (layout_of c) turn) (hi - lo) (pos lo) m
@@ -98,7 +99,7 @@ module _ (c : Checked) (inputs : List Storage) where
       let m1 : Machine = meaning (layout_of c) (charge_of 1) m in
       let m2 : Machine = meaning (layout_of c) (move_code (length ps) var) m1 in
       let m3 : Machine = for_turns var (meaning (layout_of c) turn) (ends.1 - ends.0) (pos ends.0) m2 in
-      let begun : Live c inputs base (worked 1 r) m2 = saved c inputs ps var (worked 1 r) m1 first (omega (arith, room)) (charged c inputs ps r m 1 l) in
+      let begun : Live (start_of c inputs) base (worked 1 r) m2 = saved c inputs ps var (worked 1 r) m1 first (omega (arith, room)) (charged c inputs ps r m 1 l) in
       let long_base : length base ≡ length ps + 1 = saved_length ps var in
       let t : Turned c inputs var base (repeated (ends.1 - ends.0) ends.0 var a vars (worked 1 r)) m3 =
       turns_go c inputs var base vars a turn (omega (arith, first, long_base)) (omega (arith, room, long_base)) (braced_goes_on (stage_all (setting_of c inputs) body) (all_go_on (setting_of c inputs) body))
@@ -110,9 +111,9 @@ module _ (c : Checked) (inputs : List Storage) where
 
   -- ---- tests and lets
 
-  module _ (sees : (ps : List ℤ) (r : Run) (m : Machine) → Live c inputs ps r m → SeesAll (heads_in c) (seen m) (tensors_of (setting_of c inputs) r)) (values : ValuesMean) where
-    branch : (ps : List ℤ) (off : Bool) (n n' : Run) (m m' : Machine) → Live c inputs ps n m → (regular n' ≡ true → Related c inputs ps n' m') → regular (if off then n else n') ≡ true
-        → Related c inputs ps (if off then n else n') (if off then m else m')
+  module _ (sees : (ps : List ℤ) (r : Run) (m : Machine) → Live (start_of c inputs) ps r m → SeesAll (heads_in c) (seen m) (tensors_of (setting_of c inputs) r)) (values : ValuesMean) where
+    branch : (ps : List ℤ) (off : Bool) (n n' : Run) (m m' : Machine) → Live (start_of c inputs) ps n m → (regular n' ≡ true → Related (start_of c inputs) ps n' m') → regular (if off then n else n') ≡ true
+        → Related (start_of c inputs) ps (if off then n else n') (if off then m else m')
     branch ps true n n' m m' l go g = inl l
     branch ps false n n' m m' l go g = go g
 
@@ -137,7 +138,7 @@ module _ (c : Checked) (inputs : List Storage) where
         ∙ ap (λ (x : ℤ). if is_off x then m2 else meaning (layout_of c) (Seq codes) m2) known.value in
         by_both ps _ _ _ _ (e ∙ q.is) d
         (branch ps (int_eq z (pos 0)) (worked 1 r) (a vars (worked 1 r)) m2 (meaning (layout_of c) (Seq codes) m2) known.live
-        (λ h. subst (Related c inputs ps (a vars (worked 1 r))) (sym (meaning_seq (layout_of c) codes m2)) (body_goes c inputs body all sc ps vars (worked 1 r) m2 p (cond_fits c sc (length ps) test body line last f) long same known.live h))
+        (λ h. subst (Related (start_of c inputs) ps (a vars (worked 1 r))) (sym (meaning_seq (layout_of c) codes m2)) (body_goes c inputs body all sc ps vars (worked 1 r) m2 p (cond_fits c sc (length ps) test body line last f) long same known.live h))
         (sym (ap regular (e ∙ q.is)) ∙ g))
 
     -- a let's body begins with the value in the variable's local
@@ -163,7 +164,7 @@ module _ (c : Checked) (inputs : List Storage) where
         let m3 : Machine = meaning_all (layout_of c) (prelude v) m2 in
         let m4 : Machine = meaning (layout_of c) (Assign var v.value) m3 in
         let m5 : Machine = meaning (layout_of c) (Seq codes) m4 in
-        let begun : Live c inputs base (worked 1 r) m2 = saved c inputs ps var (worked 1 r) m1 first (omega (arith, room)) (charged c inputs ps r m 1 l) in
+        let begun : Live (start_of c inputs) base (worked 1 r) m2 = saved c inputs ps var (worked 1 r) m1 first (omega (arith, room)) (charged c inputs ps r m 1 l) in
         let around : Placed c sc (length base) = wider c sc (length ps) (length base) (omega (arith, long_base)) p in
         let before : Agree (variables_in c) base vars = saved_agree (variables_in c) ps var vars p.after same in
         let enough : end_of (value_code (heads_in c) value (length base)) ≤ (layout_of c).locals = subst (λ (n : ℕ). end_of (value_code (heads_in c) value n) ≤ (layout_of c).locals) (sym long_base) (value_room c sc (length ps) var value body line last f) in
@@ -171,13 +172,13 @@ module _ (c : Checked) (inputs : List Storage) where
         subst (λ (n : ℕ). Valued c inputs sees values base (worked 1 r) (value_code (heads_in c) value n) z (meaning_all (layout_of c) (prelude (value_code (heads_in c) value n)) m2)) long_base
         (value_goes c inputs sees values sc value base vars (worked 1 r) m2 around (value_named c sc (length ps) var value body line last f) q.reads q.small long before enough begun) in
         let words : List ℤ = slice_set base var z in
-        let put : Live c inputs words (worked 1 r) m4 =
-        subst (Live c inputs words (worked 1 r)) (sym (meaning_assign (layout_of c) var v.value m3 ∙ ap (λ (x : ℤ). assign var x m3) known.value))
-        (live_set c inputs base (worked 1 r) m3 var z (omega (arith, first, long_base)) (omega (arith, room, long_base)) known.live) in
+        let put : Live (start_of c inputs) words (worked 1 r) m4 =
+        subst (Live (start_of c inputs) words (worked 1 r)) (sym (meaning_assign (layout_of c) var v.value m3 ∙ ap (λ (x : ℤ). assign var x m3) known.value))
+        (live_set (start_of c inputs) base (worked 1 r) m3 var z (omega (arith, first, long_base)) (omega (arith, room, long_base)) known.live) in
         let but : SameBut var words base = same_but_set var z base base (same_but_itself var base) in
         let agree : Agree (variables_in c) words (slice_set vars var z) = agree_bound (variables_in c) var z base base vars (omega (arith, first, long_base)) (omega (arith, bound.0, long)) (same_but_itself var base) before in
-        let done : Related c inputs words (a (slice_set vars var z) (worked 1 r)) m5 =
-        subst (Related c inputs words (a (slice_set vars var z) (worked 1 r))) (sym (meaning_seq (layout_of c) codes m4))
+        let done : Related (start_of c inputs) words (a (slice_set vars var z) (worked 1 r)) m5 =
+        subst (Related (start_of c inputs) words (a (slice_set vars var z) (worked 1 r))) (sym (meaning_seq (layout_of c) codes m4))
         (inner_goes body all (within_let sc var) (length ps + 1) words (slice_set vars var z) (worked 1 r) m4 (but.long ∙ long_base) (let_placed c sc (length ps) var bound.0 p) inner (length-set vars var z ∙ long) agree put (sym (ap regular (e ∙ q.is)) ∙ g)) in
         let d = ap (λ (x : Code). meaning (layout_of c) x m) (code_bind (sides_in c) (length ps) var value body line last)
         ∙ meaning_seq (layout_of c) _ m

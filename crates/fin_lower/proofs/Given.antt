@@ -1,8 +1,9 @@
 -- What stands for a header where a run begins: for an input its storage, for any other nothing.
-use Rattle.std.proofs.Common.{◌≡◌, ◌<◌, ◌+◌, ℕ, zero, suc, Bool, true, false, List, [], ◌∷◌, map, length, drop, add-one, Option, Some, None, if◌then◌else◌, refl, sym, ap, ◌∙◌, subst}
+use Rattle.std.proofs.Common.{◌≡◌, ◌<◌, ◌+◌, ℕ, zero, suc, Bool, true, false, List, [], ◌∷◌, map, length, drop, add-one, Option, Some, None, if◌then◌else◌, refl, sym, ap, ◌∙◌, subst, ℤ}
 use Rattle.std.specs.Prelude.{slice_get, slice_index_or, unwrap_or, is_none}
 use Rattle.fin_tensor.specs.declared.storage.Storage.{Storage}
 use Rattle.fin_tensor.specs.TensorFunction.{TensorFunction}
+use Rattle.fin_tensor.specs.Building.{Building}
 use Rattle.fin_tensor.specs.Canon.{undecorated}
 use Rattle.fin_tensor.specs.Stands.{stands}
 use Rattle.fin_ast.specs.declared.header.Header.{Header}
@@ -12,11 +13,13 @@ use Rattle.fin_ast.specs.Accepted.{inputs_among, HaveFormats, FitProgram}
 use Rattle.fin_ast.specs.Dense.{made_at, inputs_by_header, setting_of}
 use Rattle.fin_ast.specs.Shaped.{AreShaped, FitHeaders}
 use Rattle.fin_ir.specs.Frozen.{frozen_of}
-use Rattle.fin_ir.specs.Machine.{Tensor, nothing, stored, held}
+use Rattle.fin_ir.specs.Machine.{Machine, Tensor, nothing, building, stored, held}
 use Rattle.fin_ir.specs.Start.{given_if, given, first_tensors}
-use Rattle.fin_stage.specs.Staged.{is_made}
+use Rattle.fin_stage.specs.Stages.{Stage, Built, stage_at}
+use Rattle.fin_stage.specs.Staged.{Run, is_made}
+use Rattle.fin_nest.specs.Related.{Stand, Live}
 use Rattle.fin_lower.specs.Plans.{kind_number}
-use Rattle.fin_lower.specs.Lowered.{begun}
+use Rattle.fin_lower.specs.Lowered.{begun, start_of}
 use Rattle.fin_lower.proofs.Headed.{header_there, input_number}
 
 -- an input's storage has the header's format and shape
@@ -129,3 +132,15 @@ module _ (c : Checked) (inputs : List Storage) (fits : FitHeaders c.program.head
         by_begun : (x : Header) (b : Bool) → IsBegun b x (slice_index_or c.dims.shapes t []) (made_at (setting_of c inputs).given t) (held (begun c inputs).tensors t) → b ≡ false
         by_begun x true i = let n = ap is_none i.function in cc
         by_begun x false i = refl
+
+-- a tensor that is being built isn't given
+pub built_is_made : (c : Checked) (inputs : List Storage) (pins : List ℤ) (r : Run) (m : Machine) → Live (start_of c inputs) pins r m
+    → FitHeaders c.program.headers c.dims → FitProgram c inputs → (t : ℕ) (b : Building) → stage_at r.stages t ≡ Built b → is_made (setting_of c inputs) t ≡ true
+built_is_made c inputs pins r m live fits given_fit t b e = by_given (made_at (setting_of c inputs).given t) refl where
+  by_given : (o : Option _) → made_at (setting_of c inputs).given t ≡ o → is_made (setting_of c inputs) t ≡ true
+  by_given None n = ap is_none n
+  by_given (Some g) n =
+      let q = given_is_input c inputs fits given_fit t g n in
+      let there : held m.tensors t ≡ stored _ = live.given t (ap is_none n) ∙ q.3.tensor in
+      let own : held m.tensors t ≡ building b = subst (λ (s : Stage). Stand s (held m.tensors t)) e (live.each t) in
+      cc

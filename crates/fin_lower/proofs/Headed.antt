@@ -7,7 +7,6 @@ use Rattle.fin_ast.specs.declared.header.Kind.{Kind}
 use Rattle.fin_ast.specs.declared.header.Kind.TheVariants.{Input, Output, Local}
 use Rattle.fin_ast.specs.Kinds.{is_input}
 use Rattle.fin_ast.specs.Shaped.{AreShaped}
-use Rattle.fin_ir.specs.Machine as machine
 use Rattle.fin_read.specs.Values.{heads_of, format_of, shape_of}
 use Rattle.fin_lower.specs.Plans.{kind_number}
 

@@ -2,7 +2,6 @@ pub mod Beginning
 pub mod Beside
 pub mod Bodies
 pub mod Capped
-pub mod Changed
 pub mod Control
 pub mod Extents
 pub mod Fronts
@@ -11,13 +10,10 @@ pub mod Headed
 pub mod Inside
 pub mod Listing
 pub mod Naming
-pub mod Pinning
 pub mod Placed
 pub mod Putting
-pub mod Related
 pub mod Saving
 pub mod Seen
-pub mod Still
 pub mod Turns
 pub mod Updating
 pub mod Valued

@@ -1,6 +1,6 @@
 -- Declarations, freezes and thaws.
-use Rattle.std.proofs.Common.{◌≡◌, ◌<◌, ◌+◌, ◌^◌, ℕ, Bool, true, false, ◌&&◌, List, [], ◌∷◌, length, if◌then◌else◌, refl, sym, ap, ◌∙◌, subst, inl, inr, ℤ, pos, arith}
-use Rattle.std.specs.Prelude.{slice_get, nat_lt, nat_le, nat_eq, not}
+use Rattle.std.proofs.Common.{◌≡◌, ◌<◌, ◌+◌, ◌^◌, ℕ, Bool, true, false, List, [], ◌∷◌, length, if◌then◌else◌, refl, sym, ap, ◌∙◌, subst, inl, inr, ℤ, pos, arith}
+use Rattle.std.specs.Prelude.{slice_get, nat_lt, nat_eq, not}
 use Rattle.std.proofs.lemmas.Bool.{lt-ltb, not-true}
 use Rattle.std.proofs.lemmas.List.{length-map, get_or-set_same}
 use Rattle.fin_tensor.specs.declared.format.Format.{Format}
@@ -37,12 +37,12 @@ use Rattle.fin_read.specs.Counts.{count_code}
 use Rattle.fin_read.specs.Means.{CountsMean}
 use Rattle.fin_lower.specs.Lowering.{charge_of, count_of, declare_code, freeze_code, thaw_code}
 use Rattle.fin_lower.specs.Plans.{heads_in, layout_of}
-use Rattle.fin_lower.specs.Lowered.{canon_of}
-use Rattle.fin_lower.proofs.Related.{Stand, Live, Over, Related}
+use Rattle.fin_lower.specs.Lowered.{canon_of, start_of}
+use Rattle.fin_nest.specs.Related.{Stand, Live, Over, Related}
 use Rattle.fin_lower.proofs.Headed.{formats_are, kind_is, input_number, shapes_long, builds_there}
-use Rattle.fin_lower.proofs.Given.{made_is_other}
+use Rattle.fin_lower.proofs.Given.{made_is_other, built_is_made}
 use Rattle.fin_lower.proofs.Seen.{few_of, canon_valid, seen_held, stage_there}
-use Rattle.fin_lower.proofs.Changed.{paid, charge_pays, number_pays, cut_pays, worked_live, changed_to, changed_live, built_is_made}
+use Rattle.fin_nest.proofs.Changed.{paid, charge_pays, number_pays, cut_pays, worked_live, changed_to, changed_live}
 use Rattle.fin_stage.proofs.Trailing.{made_by}
 
 storing_small : (b : Building) → is_large b ≡ false → work_of_storing b.format b.function ≡ 1 + length (canon b).val
@@ -81,7 +81,7 @@ module _ (c : Checked) (inputs : List Storage) (fits : FitHeaders c.program.head
   started_fits : (t : ℕ) → StageFits w t (Built (started (format_at w t) (shape_at w t)))
   started_fits t = (refl, record { shape = refl; fill = same_fill w (slice_get c.program.headers t); cells = filled_has_cells (shape_at w t) (format_at w t).fill })
 
-  pub declare_goes : (pins : List ℤ) (r : Run) (m : Machine) → Live c inputs pins r m → (t : ℕ) → t < length c.program.headers → regular (declare w t r) ≡ true → Related c inputs pins (declare w t r) (meaning (layout_of c) (declare_code (heads_in c) t) m)
+  pub declare_goes : (pins : List ℤ) (r : Run) (m : Machine) → Live (start_of c inputs) pins r m → (t : ℕ) → t < length c.program.headers → regular (declare w t r) ≡ true → Related (start_of c inputs) pins (declare w t r) (meaning (layout_of c) (declare_code (heads_in c) t) m)
   declare_goes pins r m live t lt reg =
       let work : ℕ = work_of_declaration (format_at w t).levels (shape_at w t) in
       let b : Building = started (format_at w t) (shape_at w t) in
@@ -95,9 +95,9 @@ module _ (c : Checked) (inputs : List Storage) (fits : FitHeaders c.program.head
       let ends : meaning (layout_of c) (declare_code (heads_in c) t) m ≡ paid work n =
       meaning_seq (layout_of c) (Declare t ∷ charge_of work ∷ []) m ∙ ap (meaning (layout_of c) (charge_of work)) declared ∙ number_pays (layout_of c) work n live.cut in
       let same : building own ≡ building b = ap (λ (f : Format). building (started f (shape_at w t))) (formats_are c.program.headers c.dims.shapes t) in
-      let goes : Live c inputs pins done (paid work n) = worked_live c inputs pins (with_stage t (Built b) r) n (changed_live c inputs pins r m live t (Built b) (building own) lt made same (started_fits t)) work in
+      let goes : Live (start_of c inputs) pins done (paid work n) = worked_live (start_of c inputs) pins (with_stage t (Built b) r) n (changed_live (start_of c inputs) pins r m live t (Built b) (building own) lt made same (started_fits t)) work in
       let run : declare w t r ≡ done = ap (λ (x : Bool). if x then done else unalive r) made in
-      inl (subst (λ (x : Run). Live c inputs pins x (meaning (layout_of c) (declare_code (heads_in c) t) m)) (sym run) (subst (Live c inputs pins done) (sym ends) goes))
+      inl (subst (λ (x : Run). Live (start_of c inputs) pins x (meaning (layout_of c) (declare_code (heads_in c) t) m)) (sym run) (subst (Live (start_of c inputs) pins done) (sym ends) goes))
 
   -- ---- the number of values
 
@@ -130,8 +130,8 @@ module _ (c : Checked) (inputs : List Storage) (fits : FitHeaders c.program.head
 
     -- ---- freezes
 
-    module _ (pins : List ℤ) (r : Run) (m : Machine) (live : Live c inputs pins r m) (t : ℕ) where
-      freeze_built : (b : Building) → stage_at r.stages t ≡ Built b → Related c inputs pins (freeze_at t (Built b) r) (meaning (layout_of c) (freeze_code (heads_in c) t) m)
+    module _ (pins : List ℤ) (r : Run) (m : Machine) (live : Live (start_of c inputs) pins r m) (t : ℕ) where
+      freeze_built : (b : Building) → stage_at r.stages t ≡ Built b → Related (start_of c inputs) pins (freeze_at t (Built b) r) (meaning (layout_of c) (freeze_code (heads_in c) t) m)
       freeze_built b e = by_size (is_large b) refl where
         own : held m.tensors t ≡ building b
         own = subst (λ (x : Stage). Stand x (held m.tensors t)) e (live.each t)
@@ -147,20 +147,20 @@ module _ (c : Checked) (inputs : List Storage) (fits : FitHeaders c.program.head
             meaning_freeze (layout_of c) t m ∙ ap (λ (x : Bool). if x then m else frozen_at t (held m.tensors t) m) live.cut ∙ ap (λ (y : Tensor). frozen_at t y m) own
             ∙ ap (λ (x : Bool). if x then cut_off m else changed_to t (stored (canon b)) m) h
 
-        by_size : (large : Bool) → is_large b ≡ large → Related c inputs pins (freeze_at t (Built b) r) (meaning (layout_of c) (freeze_code (heads_in c) t) m)
+        by_size : (large : Bool) → is_large b ≡ large → Related (start_of c inputs) pins (freeze_at t (Built b) r) (meaning (layout_of c) (freeze_code (heads_in c) t) m)
         by_size true large =
             let ends : meaning (layout_of c) (freeze_code (heads_in c) t) m ≡ cut_off m =
             meaning_seq (layout_of c) (Freeze t ∷ charge_of 1 ∷ Charge (count_of (heads_in c) t) ∷ []) m
             ∙ ap (λ (n : Machine). meaning (layout_of c) (Charge (count_of (heads_in c) t)) (meaning (layout_of c) (charge_of 1) n)) (frozen true large)
             ∙ ap (meaning (layout_of c) (Charge (count_of (heads_in c) t))) (cut_pays (layout_of c) (Num (pos 1)) (cut_off m) refl) ∙ cut_pays (layout_of c) (count_of (heads_in c) t) (cut_off m) refl in
-            let over : Over c inputs (freeze_at t (Built b) r) (cut_off m) = record { cut = refl; regular = live.regular; over = omega arith; most = omega (arith, live.charges, storing_large b large) } in
-            inr (subst (Over c inputs (freeze_at t (Built b) r)) (sym ends) over)
+            let over : Over (freeze_at t (Built b) r) (cut_off m) = record { cut = refl; regular = live.regular; over = omega arith; most = omega (arith, live.charges, storing_large b large) } in
+            inr (subst (Over (freeze_at t (Built b) r)) (sym ends) over)
         by_size false few =
             let n : Machine = changed_to t (stored (canon b)) m in
             let stage : Run = with_stage t (Frozen (undecorated b.format) b.function) r in
             let size : ℕ = length (canon b).val in
-            let goes : Live c inputs pins stage n = changed_live c inputs pins r m live t (Frozen (undecorated b.format) b.function) (stored (canon b)) lt (built_is_made c inputs pins r m live fits given_fit t b e) (few, refl) fit in
-            let there : seen n t ≡ stored (canon b) = seen_held c inputs fits given_fit pins stage n goes t ∙ get_or-set_same m.tensors t (stored (canon b)) nothing (omega (arith, lt, live.tensors, length-map c.program.headers (λ (x : Header). x.format))) in
+            let goes : Live (start_of c inputs) pins stage n = changed_live (start_of c inputs) pins r m live t (Frozen (undecorated b.format) b.function) (stored (canon b)) lt (built_is_made c inputs pins r m live fits given_fit t b e) (few, refl) fit in
+            let there : seen n t ≡ stored (canon b) = seen_held c inputs fits given_fit pins stage n goes t ∙ get_or-set_same m.tensors t (stored (canon b)) nothing (omega (arith, lt, live.tensors)) in
             let value : value_in (paid 1 n) (count_of (heads_in c) t) ≡ pos size = count_is t b (paid 1 n) (shaped t b lt fit.0 fit.1) few there in
             let ends : meaning (layout_of c) (freeze_code (heads_in c) t) m ≡ paid (1 + size) n =
             meaning_seq (layout_of c) (Freeze t ∷ charge_of 1 ∷ Charge (count_of (heads_in c) t) ∷ []) m
@@ -168,11 +168,11 @@ module _ (c : Checked) (inputs : List Storage) (fits : FitHeaders c.program.head
             ∙ ap (meaning (layout_of c) (Charge (count_of (heads_in c) t))) (number_pays (layout_of c) 1 n live.cut) ∙ charge_pays (layout_of c) (count_of (heads_in c) t) size (paid 1 n) live.cut value
             ∙ paid_twice 1 size n in
             let work : worked (1 + size) stage ≡ freeze_at t (Built b) r = ap (λ (k : ℕ). worked k stage) (sym (storing_small b few)) in
-            inl (subst (Live c inputs pins (freeze_at t (Built b) r)) (sym ends) (subst (λ (x : Run). Live c inputs pins x (paid (1 + size) n)) work (worked_live c inputs pins stage n goes (1 + size))))
+            inl (subst (Live (start_of c inputs) pins (freeze_at t (Built b) r)) (sym ends) (subst (λ (x : Run). Live (start_of c inputs) pins x (paid (1 + size) n)) work (worked_live (start_of c inputs) pins stage n goes (1 + size))))
 
-      pub freeze_goes : regular (freeze t r) ≡ true → Related c inputs pins (freeze t r) (meaning (layout_of c) (freeze_code (heads_in c) t) m)
+      pub freeze_goes : regular (freeze t r) ≡ true → Related (start_of c inputs) pins (freeze t r) (meaning (layout_of c) (freeze_code (heads_in c) t) m)
       freeze_goes reg = by_stage (stage_at r.stages t) refl reg where
-        by_stage : (x : Stage) → stage_at r.stages t ≡ x → regular (freeze_at t x r) ≡ true → Related c inputs pins (freeze_at t x r) (meaning (layout_of c) (freeze_code (heads_in c) t) m)
+        by_stage : (x : Stage) → stage_at r.stages t ≡ x → regular (freeze_at t x r) ≡ true → Related (start_of c inputs) pins (freeze_at t x r) (meaning (layout_of c) (freeze_code (heads_in c) t) m)
         by_stage Absent e g = cc
         by_stage (Built b) e g = freeze_built b e
         by_stage (Frozen format f) e g = cc
@@ -190,7 +190,7 @@ module _ (c : Checked) (inputs : List Storage) (fits : FitHeaders c.program.head
           let function : stood_for (canon b) ≡ f = ap (λ (z : ℤ). tabulated f.shape z (value_from f.shape (canon b).parts (canon b).val z 0)) fill ∙ listed_is format.levels f s.runs s.long own.cells in
           ap (λ (x : Format). unchanged x (stood_for (canon b))) bare ∙ ap (unchanged format) function
 
-      thaw_frozen : (format : Format) (f : TensorFunction) → stage_at r.stages t ≡ Frozen format f → is_made w t ≡ true → Related c inputs pins (thaw_at t (Frozen format f) r) (meaning (layout_of c) (thaw_code (heads_in c) t) m)
+      thaw_frozen : (format : Format) (f : TensorFunction) → stage_at r.stages t ≡ Frozen format f → is_made w t ≡ true → Related (start_of c inputs) pins (thaw_at t (Frozen format f) r) (meaning (layout_of c) (thaw_code (heads_in c) t) m)
       thaw_frozen format f e made =
           let b : Building = unchanged format f in
           let stand : Stand (Frozen format f) (held m.tensors t) = subst (λ (x : Stage). Stand x (held m.tensors t)) e (live.each t) in
@@ -210,16 +210,16 @@ module _ (c : Checked) (inputs : List Storage) (fits : FitHeaders c.program.head
           ∙ ap (meaning (layout_of c) (Thaw t)) (charge_pays (layout_of c) (count_of (heads_in c) t) size (paid 1 m) live.cut value ∙ paid_twice 1 size m) ∙ thaws in
           let stage : Run = with_stage t (Built b) r in
           let built : StageFits w t (Built b) = (ap undecorated fit.0, fit.1) in
-          let goes : Live c inputs pins stage (changed_to t y m) = changed_live c inputs pins r m live t (Built b) y lt made (ap building (thawed_is format f lt fit)) built in
+          let goes : Live (start_of c inputs) pins stage (changed_to t y m) = changed_live (start_of c inputs) pins r m live t (Built b) y lt made (ap building (thawed_is format f lt fit)) built in
           let work : worked (1 + size) stage ≡ thaw_at t (Frozen format f) r = ap (λ (k : ℕ). worked k stage) (sym (storing_small b stand.0)) in
-          inl (subst (Live c inputs pins (thaw_at t (Frozen format f) r)) (sym ends) (subst (λ (x : Run). Live c inputs pins x (changed_to t y n)) work (worked_live c inputs pins stage (changed_to t y m) goes (1 + size))))
+          inl (subst (Live (start_of c inputs) pins (thaw_at t (Frozen format f) r)) (sym ends) (subst (λ (x : Run). Live (start_of c inputs) pins x (changed_to t y n)) work (worked_live (start_of c inputs) pins stage (changed_to t y m) goes (1 + size))))
 
-      pub thaw_goes : regular (thaw w t r) ≡ true → Related c inputs pins (thaw w t r) (meaning (layout_of c) (thaw_code (heads_in c) t) m)
+      pub thaw_goes : regular (thaw w t r) ≡ true → Related (start_of c inputs) pins (thaw w t r) (meaning (layout_of c) (thaw_code (heads_in c) t) m)
       thaw_goes reg =
           let made : is_made w t ≡ true = made_by (is_made w t) (thaw_at t (stage_at r.stages t) r) r reg in
           let run : thaw w t r ≡ thaw_at t (stage_at r.stages t) r = ap (λ (x : Bool). if x then thaw_at t (stage_at r.stages t) r else unalive r) made in
-          subst (λ (x : Run). Related c inputs pins x (meaning (layout_of c) (thaw_code (heads_in c) t) m)) (sym run) (by_stage (stage_at r.stages t) refl made (ap regular (sym run) ∙ reg)) where
-            by_stage : (x : Stage) → stage_at r.stages t ≡ x → is_made w t ≡ true → regular (thaw_at t x r) ≡ true → Related c inputs pins (thaw_at t x r) (meaning (layout_of c) (thaw_code (heads_in c) t) m)
+          subst (λ (x : Run). Related (start_of c inputs) pins x (meaning (layout_of c) (thaw_code (heads_in c) t) m)) (sym run) (by_stage (stage_at r.stages t) refl made (ap regular (sym run) ∙ reg)) where
+            by_stage : (x : Stage) → stage_at r.stages t ≡ x → is_made w t ≡ true → regular (thaw_at t x r) ≡ true → Related (start_of c inputs) pins (thaw_at t x r) (meaning (layout_of c) (thaw_code (heads_in c) t) m)
             by_stage Absent e made g = cc
             by_stage (Built b) e made g = cc
             by_stage (Frozen format f) e made g = thaw_frozen format f e made

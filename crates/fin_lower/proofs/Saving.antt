@@ -17,10 +17,11 @@ use Rattle.fin_stage.proofs.Onward.{onward_still}
 use Rattle.fin_read.specs.Steps.{Agree}
 use Rattle.fin_lower.specs.Lowering.{charge_of, move_code}
 use Rattle.fin_lower.specs.Plans.{layout_of}
-use Rattle.fin_lower.proofs.Related.{Live, Related}
-use Rattle.fin_lower.proofs.Still.{stills}
-use Rattle.fin_lower.proofs.Changed.{number_pays, worked_live}
-use Rattle.fin_lower.proofs.Pinning.{at, SameBut, live_set, live_more, live_less, goes_on}
+use Rattle.fin_lower.specs.Lowered.{start_of}
+use Rattle.fin_nest.specs.Related.{Live, Related}
+use Rattle.fin_nest.proofs.Still.{stills}
+use Rattle.fin_nest.proofs.Changed.{number_pays, worked_live}
+use Rattle.fin_nest.proofs.Pinning.{at, SameBut, live_set, live_more, live_less, goes_on}
 
 -- the first locals, and behind them that of a variable
 abbrev pub with_saved : List ℤ → ℕ → List ℤ
@@ -33,30 +34,30 @@ pub saved_agree : (n : ℕ) (ps : List ℤ) (var : ℕ) (vars : Numbers) → n �
 saved_agree n ps var vars le a k lt = get_or_append_left ps (at ps var ∷ []) (pos 0) k (omega (arith, le, lt)) ∙ a k lt
 
 module _ (c : Checked) (inputs : List Storage) where
-  pub charged : (ps : List ℤ) (r : Run) (m : Machine) (n : ℕ) → Live c inputs ps r m → Live c inputs ps (worked n r) (meaning (layout_of c) (charge_of n) m)
-  charged ps r m n l = subst (Live c inputs ps (worked n r)) (sym (number_pays (layout_of c) n m l.cut)) (worked_live c inputs ps r m l n)
+  pub charged : (ps : List ℤ) (r : Run) (m : Machine) (n : ℕ) → Live (start_of c inputs) ps r m → Live (start_of c inputs) ps (worked n r) (meaning (layout_of c) (charge_of n) m)
+  charged ps r m n l = subst (Live (start_of c inputs) ps (worked n r)) (sym (number_pays (layout_of c) n m l.cut)) (worked_live (start_of c inputs) ps r m l n)
 
   moves : (to source : ℕ) (m : Machine) → meaning (layout_of c) (move_code to source) m ≡ assign to (at m.locals source) m
   moves to source m = meaning_assign (layout_of c) to (Local source) m ∙ ap (λ (v : ℤ). assign to v m) (value_local (seen m) m.locals source)
 
-  pub saved : (ps : List ℤ) (var : ℕ) (r : Run) (m : Machine) → var < length ps → length ps < (layout_of c).locals → Live c inputs ps r m → Live c inputs (with_saved ps var) r (meaning (layout_of c) (move_code (length ps) var) m)
-  saved ps var r m lt room l = subst (Live c inputs (with_saved ps var) r) (sym (moves (length ps) var m ∙ ap (λ (v : ℤ). assign (length ps) v m) (l.pinned var lt))) (live_more c inputs ps r m (at ps var) room l)
+  pub saved : (ps : List ℤ) (var : ℕ) (r : Run) (m : Machine) → var < length ps → length ps < (layout_of c).locals → Live (start_of c inputs) ps r m → Live (start_of c inputs) (with_saved ps var) r (meaning (layout_of c) (move_code (length ps) var) m)
+  saved ps var r m lt room l = subst (Live (start_of c inputs) (with_saved ps var) r) (sym (moves (length ps) var m ∙ ap (λ (v : ℤ). assign (length ps) v m) (l.pinned var lt))) (live_more (start_of c inputs) ps r m (at ps var) room l)
 
-  restored_live : (ps words : List ℤ) (var : ℕ) (r : Run) (m : Machine) → var < length ps → SameBut var words (with_saved ps var) → length words ≤ (layout_of c).locals → Live c inputs words r m
-      → Live c inputs ps r (meaning (layout_of c) (move_code var (length ps)) m)
+  restored_live : (ps words : List ℤ) (var : ℕ) (r : Run) (m : Machine) → var < length ps → SameBut var words (with_saved ps var) → length words ≤ (layout_of c).locals → Live (start_of c inputs) words r m
+      → Live (start_of c inputs) ps r (meaning (layout_of c) (move_code var (length ps)) m)
   restored_live ps words var r m lt s room l =
       let long : length words ≡ length ps + 1 = s.long ∙ saved_length ps var in
       let apart : length ps ≢ var = λ e. absurd (omega (arith, e, lt)) in
       let value : at m.locals (length ps) ≡ at ps var = l.pinned (length ps) (omega (arith, long)) ∙ s.same (length ps) apart ∙ get_or-append_seam ps (at ps var) [] (pos 0) in
-      let put : Live c inputs (slice_set words var (at ps var)) r (assign var (at ps var) m) = live_set c inputs words r m var (at ps var) (omega (arith, lt, long)) room l in
+      let put : Live (start_of c inputs) (slice_set words var (at ps var)) r (assign var (at ps var) m) = live_set (start_of c inputs) words r m var (at ps var) (omega (arith, lt, long)) room l in
       let agree : Agree (length ps) (slice_set words var (at ps var)) ps = λ k below. ⊎_elim
       (λ (e : k ≡ var). ap (at (slice_set words var (at ps var))) e ∙ get_or-set_same words var (at ps var) (pos 0) (omega (arith, lt, long)) ∙ ap (at ps) (sym e))
       (λ (ne : k ≢ var). get_or-set_other words var k (at ps var) (pos 0) ne ∙ s.same k ne ∙ get_or_append_left ps (at ps var ∷ []) (pos 0) k below)
       (cases_eq k var) in
-      subst (Live c inputs ps r) (sym (moves var (length ps) m ∙ ap (λ (v : ℤ). assign var v m) value))
-      (live_less c inputs (slice_set words var (at ps var)) ps r (assign var (at ps var) m) (omega (arith, length-set words var (at ps var), long)) agree put)
+      subst (Live (start_of c inputs) ps r) (sym (moves var (length ps) m ∙ ap (λ (v : ℤ). assign var v m) value))
+      (live_less (start_of c inputs) (slice_set words var (at ps var)) ps r (assign var (at ps var) m) (omega (arith, length-set words var (at ps var), long)) agree put)
 
-  pub restored : (ps words : List ℤ) (var : ℕ) (r : Run) (m : Machine) → var < length ps → SameBut var words (with_saved ps var) → length words ≤ (layout_of c).locals → Related c inputs words r m
-      → Related c inputs ps r (meaning (layout_of c) (move_code var (length ps)) m)
+  pub restored : (ps words : List ℤ) (var : ℕ) (r : Run) (m : Machine) → var < length ps → SameBut var words (with_saved ps var) → length words ≤ (layout_of c).locals → Related (start_of c inputs) words r m
+      → Related (start_of c inputs) ps r (meaning (layout_of c) (move_code var (length ps)) m)
   restored ps words var r m lt s room rel =
-      goes_on c inputs words ps r r m (meaning (layout_of c) (move_code var (length ps))) (onward_still r) (stills (layout_of c) (move_code var (length ps))) rel (λ l. inl (restored_live ps words var r m lt s room l))
+      goes_on (start_of c inputs) words ps r r m (meaning (layout_of c) (move_code var (length ps))) (onward_still r) (stills (layout_of c) (move_code var (length ps))) rel (λ l. inl (restored_live ps words var r m lt s room l))

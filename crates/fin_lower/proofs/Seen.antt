@@ -33,7 +33,8 @@ use Rattle.fin_read.specs.Sees.{Sees, SeesAll}
 use Rattle.fin_lower.specs.Plans.{heads_in}
 use Rattle.fin_lower.proofs.Headed.{format_is, builds_there}
 use Rattle.fin_lower.proofs.Given.{given_is_input}
-use Rattle.fin_lower.proofs.Related.{Stand, Live}
+use Rattle.fin_lower.specs.Lowered.{start_of}
+use Rattle.fin_nest.specs.Related.{Stand, Live}
 
 -- ---- one tensor
 
@@ -86,7 +87,7 @@ frozen_by Absent f e = cc
 frozen_by (Built b) f e = cc
 frozen_by (Frozen format g) f e = (format, cc)
 
-module _ (c : Checked) (inputs : List Storage) (fits : FitHeaders c.program.headers c.dims) (given_fit : FitProgram c inputs) (pins : List ℤ) (r : Run) (m : Machine) (live : Live c inputs pins r m) where
+module _ (c : Checked) (inputs : List Storage) (fits : FitHeaders c.program.headers c.dims) (given_fit : FitProgram c inputs) (pins : List ℤ) (r : Run) (m : Machine) (live : Live (start_of c inputs) pins r m) where
   -- nothing is shared
   pub seen_held : (t : ℕ) → seen m t ≡ held m.tensors t
   seen_held t = ap (λ (ts : List Tensor). over (held m.tensors t) (held ts t)) live.shared ∙ own (held m.tensors t) where

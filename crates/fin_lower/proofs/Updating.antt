@@ -29,9 +29,10 @@ use Rattle.fin_read.specs.Values.{shape_of}
 use Rattle.fin_read.proofs.Reading.{inside, box_value}
 use Rattle.fin_lower.specs.Lowering.{charge_of}
 use Rattle.fin_lower.specs.Plans.{heads_in, layout_of}
-use Rattle.fin_lower.proofs.Related.{Stand, Live, Related}
+use Rattle.fin_lower.specs.Lowered.{start_of}
+use Rattle.fin_nest.specs.Related.{Stand, Live, Related}
 use Rattle.fin_lower.proofs.Seen.{stage_there}
-use Rattle.fin_lower.proofs.Changed.{paid, number_pays, worked_live, changed_to, changed_live}
+use Rattle.fin_nest.proofs.Changed.{paid, number_pays, worked_live, changed_to, changed_live}
 use Rattle.fin_stage.proofs.Trailing.{made_by}
 use Rattle.fin_lower.proofs.Inside.{coordinates_are}
 
@@ -44,7 +45,7 @@ in_order : (b : Bool) (x r : Run) → regular (if b then x else unordered r) ≡
 in_order true x r e = refl
 in_order false x r e = right (r.alive && r.small) false e
 
-module _ (c : Checked) (inputs : List Storage) (fits : FitHeaders c.program.headers c.dims) (given_fit : FitProgram c inputs) (pins : List ℤ) (r : Run) (m : Machine) (live : Live c inputs pins r m) (t : ℕ) where
+module _ (c : Checked) (inputs : List Storage) (fits : FitHeaders c.program.headers c.dims) (given_fit : FitProgram c inputs) (pins : List ℤ) (r : Run) (m : Machine) (live : Live (start_of c inputs) pins r m) (t : ℕ) where
   abbrev w : Setting
   w = setting_of c inputs
 
@@ -62,16 +63,16 @@ module _ (c : Checked) (inputs : List Storage) (fits : FitHeaders c.program.head
         ∙ ap (λ (ns : List ℕ). inside (coordinates ns zs)) (sym (FunctionFits.shape fit.1)) ∙ ap inside h
 
     -- outside the box nothing is done
-    put_nothing : coordinates b.function.shape zs ≡ None → Related c inputs pins (worked 1 (put_at t b None by v r)) (meaning (layout_of c) (put_code (shape_at w t) t xs by e) m)
+    put_nothing : coordinates b.function.shape zs ≡ None → Related (start_of c inputs) pins (worked 1 (put_at t b None by v r)) (meaning (layout_of c) (put_code (shape_at w t) t xs by e) m)
     put_nothing h =
         let when : meaning (layout_of c) (When (in_box (shape_at w t) xs) (Update t xs by e)) m ≡ m =
         meaning_when (layout_of c) (in_box (shape_at w t) xs) (Update t xs by e) m ∙ ap (λ (z : ℤ). if is_off z then m else meaning (layout_of c) (Update t xs by e) m) (tested None h) in
         let ends : meaning (layout_of c) (put_code (shape_at w t) t xs by e) m ≡ paid 1 m =
         meaning_seq (layout_of c) (When (in_box (shape_at w t) xs) (Update t xs by e) ∷ charge_of 1 ∷ []) m ∙ ap (meaning (layout_of c) (charge_of 1)) when ∙ number_pays (layout_of c) 1 m live.cut in
-        inl (subst (Live c inputs pins (worked 1 r)) (sym ends) (worked_live c inputs pins r m live 1))
+        inl (subst (Live (start_of c inputs) pins (worked 1 r)) (sym ends) (worked_live (start_of c inputs) pins r m live 1))
 
     -- one value is changed
-    put_one : (cs : List ℕ) → coordinates b.function.shape zs ≡ Some cs → regular (put_at t b (Some cs) by v r) ≡ true → Related c inputs pins (worked 1 (put_at t b (Some cs) by v r)) (meaning (layout_of c) (put_code (shape_at w t) t xs by e) m)
+    put_one : (cs : List ℕ) → coordinates b.function.shape zs ≡ Some cs → regular (put_at t b (Some cs) by v r) ≡ true → Related (start_of c inputs) pins (worked 1 (put_at t b (Some cs) by v r)) (meaning (layout_of c) (put_code (shape_at w t) t xs by e) m)
     put_one cs h reg =
         let new : Building = updated b cs (λ old. apply by old v) in
         let stage : Run = with_stage t (Built new) r in
@@ -91,21 +92,21 @@ module _ (c : Checked) (inputs : List Storage) (fits : FitHeaders c.program.head
         let f : FunctionFits w t b.function = fit.1 in
         let built : StageFits w t (Built new) = (fit.0, record { shape = f.shape; fill = f.fill; cells = keeps_cells b.function cs (apply by (value_at b.function cs) v) f.cells box }) in
         let lt : t < _ = stage_there c inputs fits given_fit pins r m live t (Built b) is (λ x. cc) in
-        let goes : Live c inputs pins stage n = changed_live c inputs pins r m live t (Built new) (building new) lt made refl built in
+        let goes : Live (start_of c inputs) pins stage n = changed_live (start_of c inputs) pins r m live t (Built new) (building new) lt made refl built in
         let run : worked 1 stage ≡ worked 1 (put_at t b (Some cs) by v r) = ap (λ (x : Bool). worked 1 (if x then stage else unordered r)) (sym order) in
-        inl (subst (Live c inputs pins (worked 1 (put_at t b (Some cs) by v r))) (sym ends) (subst (λ (x : Run). Live c inputs pins x (paid 1 n)) run (worked_live c inputs pins stage n goes 1)))
+        inl (subst (Live (start_of c inputs) pins (worked 1 (put_at t b (Some cs) by v r))) (sym ends) (subst (λ (x : Run). Live (start_of c inputs) pins x (paid 1 n)) run (worked_live (start_of c inputs) pins stage n goes 1)))
 
-    put_goes : (o : Option (List ℕ)) → coordinates b.function.shape zs ≡ o → regular (put_at t b o by v r) ≡ true → Related c inputs pins (worked 1 (put_at t b o by v r)) (meaning (layout_of c) (put_code (shape_at w t) t xs by e) m)
+    put_goes : (o : Option (List ℕ)) → coordinates b.function.shape zs ≡ o → regular (put_at t b o by v r) ≡ true → Related (start_of c inputs) pins (worked 1 (put_at t b o by v r)) (meaning (layout_of c) (put_code (shape_at w t) t xs by e) m)
     put_goes None h reg = put_nothing h
     put_goes (Some cs) h reg = put_one cs h reg
 
   pub update_goes : (xs : List IExpr) (zs : List ℤ) → map (value_in m) xs ≡ zs → (by : Reduce) (e : IExpr) (v : ℤ) → value_in m e ≡ v → regular (update w t zs by v r) ≡ true →
-      Related c inputs pins (update w t zs by v r) (meaning (layout_of c) (put_code (shape_of (heads_in c) t) t xs by e) m)
+      Related (start_of c inputs) pins (update w t zs by v r) (meaning (layout_of c) (put_code (shape_of (heads_in c) t) t xs by e) m)
   update_goes xs zs at by e v value reg =
       let made : is_made w t ≡ true = made_by (is_made w t) (update_at t (stage_at r.stages t) zs by v r) r reg in
       let run : update w t zs by v r ≡ worked 1 (update_at t (stage_at r.stages t) zs by v r) = ap (λ (x : Bool). worked 1 (if x then update_at t (stage_at r.stages t) zs by v r else unalive r)) made in
-      subst (λ (x : Run). Related c inputs pins x (meaning (layout_of c) (put_code (shape_at w t) t xs by e) m)) (sym run) (by_stage (stage_at r.stages t) refl made (ap regular (sym run) ∙ reg)) where
-        by_stage : (x : Stage) → stage_at r.stages t ≡ x → is_made w t ≡ true → regular (update_at t x zs by v r) ≡ true → Related c inputs pins (worked 1 (update_at t x zs by v r)) (meaning (layout_of c) (put_code (shape_at w t) t xs by e) m)
+      subst (λ (x : Run). Related (start_of c inputs) pins x (meaning (layout_of c) (put_code (shape_at w t) t xs by e) m)) (sym run) (by_stage (stage_at r.stages t) refl made (ap regular (sym run) ∙ reg)) where
+        by_stage : (x : Stage) → stage_at r.stages t ≡ x → is_made w t ≡ true → regular (update_at t x zs by v r) ≡ true → Related (start_of c inputs) pins (worked 1 (update_at t x zs by v r)) (meaning (layout_of c) (put_code (shape_at w t) t xs by e) m)
         by_stage Absent h made g = cc
         by_stage (Built b) h made g = put_goes xs zs at by e v value b h made (coordinates b.function.shape zs) refl g
         by_stage (Frozen format f) h made g = cc

@@ -17,7 +17,7 @@ use Rattle.fin_ir.proofs.Codes.{meaning_assign}
 use Rattle.fin_stage.specs.Staged.{Run, tensors_of, can_read, has_small_indices, asked_to_read, asked_for_small, with_value, regular}
 use Rattle.fin_stage.proofs.Onward.{Onward}
 use Rattle.fin_stage.proofs.Simulating.{Good, good_before, small_good}
-use Rattle.fin_stage.proofs.Alive.{left, right, both}
+use Rattle.fin_stage.proofs.Alive.{left, right}
 use Rattle.fin_read.specs.Steps.{Step, stepped, assign_of, Agree}
 use Rattle.fin_read.specs.Values.{Lowered, value_code, prelude}
 use Rattle.fin_read.specs.Sees.{SeesAll}
@@ -25,8 +25,9 @@ use Rattle.fin_read.specs.Means.{IsWithin, IsValued, ValuesMean}
 use Rattle.fin_read.proofs.Stepping.{agree_less, agree_then}
 use Rattle.fin_lower.specs.Room.{end_of}
 use Rattle.fin_lower.specs.Plans.{heads_in, variables_in, layout_of}
-use Rattle.fin_lower.proofs.Related.{Live}
-use Rattle.fin_lower.proofs.Pinning.{alive, live_locals}
+use Rattle.fin_lower.specs.Lowered.{start_of}
+use Rattle.fin_nest.specs.Related.{Live}
+use Rattle.fin_nest.proofs.Pinning.{alive, live_locals}
 use Rattle.fin_lower.proofs.Placed.{Placed}
 
 -- ---- runs
@@ -85,15 +86,15 @@ steps_go layout (x ∷ steps) m e =
 
 -- ---- values
 
-module _ (c : Checked) (inputs : List Storage) (sees : (ps : List ℤ) (r : Run) (m : Machine) → Live c inputs ps r m → SeesAll (heads_in c) (seen m) (tensors_of (setting_of c inputs) r)) (values : ValuesMean) where
+module _ (c : Checked) (inputs : List Storage) (sees : (ps : List ℤ) (r : Run) (m : Machine) → Live (start_of c inputs) ps r m → SeesAll (heads_in c) (seen m) (tensors_of (setting_of c inputs) r)) (values : ValuesMean) where
   -- the machine behind the steps of an expression does what the run does, and the expression has its value
   pub record Valued (ps : List ℤ) (r : Run) (v : Lowered) (z : ℤ) (m : Machine) : Type 0 where
-    pub live : Live c inputs ps r m
+    pub live : Live (start_of c inputs) ps r m
     pub value : value_in m v.value ≡ z
 
   pub value_goes : (sc : Scope) (e : Expr) (ps : List ℤ) (vars : Numbers) (r : Run) (m : Machine)
       → Placed c sc (length ps) → is_named_expr e sc ≡ true → can_read e (tensors_of (setting_of c inputs) r) ≡ true → has_small_indices e vars ≡ true
-      → length vars ≡ variables_in c → Agree (variables_in c) ps vars → end_of (value_code (heads_in c) e (length ps)) ≤ (layout_of c).locals → Live c inputs ps r m
+      → length vars ≡ variables_in c → Agree (variables_in c) ps vars → end_of (value_code (heads_in c) e (length ps)) ≤ (layout_of c).locals → Live (start_of c inputs) ps r m
       → Valued ps r (value_code (heads_in c) e (length ps)) (value_of e vars (tensors_of (setting_of c inputs) r)) (meaning_all (layout_of c) (prelude (value_code (heads_in c) e (length ps))) m)
   value_goes sc e ps vars r m p named can small long same room l =
       let v : Lowered = value_code (heads_in c) e (length ps) in
@@ -105,6 +106,6 @@ module _ (c : Checked) (inputs : List Storage) (sees : (ps : List ℤ) (r : Run)
       let q : IsValued (seen m) v (length ps) m.locals z = values (heads_in c) (seen m) (tensors_of (setting_of c inputs) r) sc vars e (length ps) m.locals (sees ps r m l) within named can small after agree fits in
       let ls : List ℤ = stepped (seen m) v.steps m.locals in
       subst (Valued ps r v z) (sym (steps_go (layout_of c) v.steps m l.cut)) record {
-        live = live_locals c inputs ps ps ls r m q.long (agree_then (length ps) ls m.locals ps q.kept l.pinned) l;
+        live = live_locals (start_of c inputs) ps ps ls r m q.long (agree_then (length ps) ls m.locals ps q.kept l.pinned) l;
         value = q.value ls (λ k lt. refl);
       }

@@ -1,4 +1,4 @@
-use Rattle.std.proofs.Common.{◌≡◌, rules, subst, arith}
+use Rattle.std.proofs.Common.{◌≡◌, subst, arith}
 use Rattle.std.specs.Prelude.{max}
 use Rattle.std.proofs.lemmas.Grind.{common_steps}
 use Rattle.fin_ir.specs.declared.code.Code.TheVariants.{Seq}

@@ -1,0 +1,3 @@
+pub mod Still
+pub mod Pinning
+pub mod Changed
