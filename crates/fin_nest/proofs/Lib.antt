@@ -1,3 +1,13 @@
 pub mod Still
 pub mod Pinning
 pub mod Changed
+pub mod Folds
+pub mod Means
+pub mod Senses
+pub mod Turns
+pub mod Statements
+pub mod Bodies
+pub mod Repeated
+pub mod Keeping
+pub mod Performing
+pub mod Both

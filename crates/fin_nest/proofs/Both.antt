@@ -1,0 +1,36 @@
+-- What every lawful sense has, in both senses.
+use Rattle.std.proofs.Common.{refl}
+use Rattle.fin_ir.specs.declared.layout.Layout.{Layout}
+use Rattle.fin_nest.specs.Nests.{Sense}
+use Rattle.fin_nest.specs.Senses.{runs, turns}
+use Rattle.fin_nest.specs.Both.{SensesAreLawful, ChargesAreWork, TurnsAreFree, RegionsFallApart, CutMachinesStand, Composes, StatementsCompose}
+use Rattle.fin_nest.proofs.Folds.{over_cut, cut_stands}
+use Rattle.fin_nest.proofs.Means.{counted_means}
+use Rattle.fin_nest.proofs.Senses.{runs_lawful, runs_charging, turns_lawful, turns_owing}
+use Rattle.fin_nest.proofs.Statements.{performs_nothing, performs_then, performs_when, nest_performs}
+
+pub senses_are_lawful : SensesAreLawful
+senses_are_lawful s = (runs_lawful s, turns_lawful s)
+
+pub charges_are_work : ChargesAreWork
+charges_are_work s = (runs_charging s, turns_owing s)
+
+pub turns_are_free : TurnsAreFree
+turns_are_free s layout c n mean = counted_means layout (runs s) (runs_lawful s) (λ r. refl) c n mean
+
+pub regions_fall_apart : RegionsFallApart
+regions_fall_apart s = (over_cut (runs s).pay, over_cut (turns s).pay)
+
+pub cut_machines_stand : CutMachinesStand
+cut_machines_stand s = (cut_stands (runs s) (runs_lawful s), cut_stands (turns s) (turns_lawful s))
+
+composes : {S : Type 0} (layout : Layout) (sense : Sense S) → Composes layout sense
+composes layout sense = record {
+  nothing = performs_nothing layout sense;
+  next = performs_then layout sense;
+  when = performs_when layout sense;
+  nest = nest_performs layout sense;
+}
+
+pub statements_compose : StatementsCompose
+statements_compose s layout = (composes layout (runs s), composes layout (turns s))

@@ -1,0 +1,80 @@
+-- What holds in both senses.
+use Rattle.std.specs.Prelude.{◌≡◌, ℕ, ◌+◌, ◌<◌, ◌⊎◌, List, [], ◌∷◌, true, false, if◌then◌else◌, ℤ, pos, ◌+ℤ◌}
+use Rattle.fin_ir.specs.declared.expression.IExpr.{IExpr}
+use Rattle.fin_ir.specs.declared.code.Code.{Code}
+use Rattle.fin_ir.specs.declared.code.Code.TheVariants.{Seq, When}
+use Rattle.fin_ir.specs.declared.layout.Layout.{Layout}
+use Rattle.fin_ir.specs.Machine.{Machine, seen}
+use Rattle.fin_ir.specs.Value.{value_in, is_off}
+use Rattle.fin_stage.specs.Staged.{Run, worked}
+use Rattle.fin_looplet.specs.View.{Store}
+use Rattle.fin_nest.specs.Related.{Start}
+use Rattle.fin_nest.specs.Nests.{Flags, fresh, flag_at, Nest, Sense, paid_at, at_flags, part, fold, Kept, Fits, Means, MeansCounted}
+use Rattle.fin_nest.specs.Laws.{Lawful, Onward, Over, Charges, Owing}
+use Rattle.fin_nest.specs.Senses.{runs, Tallied, turns}
+use Rattle.fin_nest.specs.Performs.{Place, Stay, Ready, Performs}
+
+-- ---- the laws
+
+abbrev pub SensesAreLawful : Type 0
+SensesAreLawful = (s : Start) → Lawful (runs s) × Lawful (turns s)
+
+-- ---- charges
+
+abbrev pub tally_worked : Tallied → Tallied
+tally_worked t = record t { run = worked 1 t.run }
+
+abbrev pub owe_one : Tallied → Tallied
+owe_one t = record t { owed = t.owed + 1 }
+
+-- a charge of 1 is work, in turns kept for the turn that is counted behind it
+abbrev pub ChargesAreWork : Type 0
+ChargesAreWork = (s : Start) → Charges s.layout (runs s) (worked 1) × Owing s.layout (turns s) tally_worked owe_one
+
+-- where stops bring nothing in, a code that means a nest means it with a counted turn
+abbrev pub TurnsAreFree : Type 0
+TurnsAreFree = (s : Start) (layout : Layout) (c : Code) (n : Nest Run) → Means layout (runs s) c n → MeansCounted layout (runs s) c n
+
+-- ---- regions in parts
+
+-- Where a part begins a region may be cut: its fold is that of what is behind, after that of what is before and what a
+-- stop between them brings in.
+abbrev pub FallsApart : (S : Type 0) → (S → S) → Type 0
+FallsApart S pay = (ts : Store) (ls : List ℤ) (n : Nest S) (m k : ℕ) (at : ℤ) (s : S)
+    → (k ≡ 0) ⊎ ((flag_at (at_flags ts ls n) fresh at m).begins ≡ true)
+    → part pay ts ls n (m + k) fresh at s
+    ≡ part pay ts ls n k fresh (at +ℤ pos m) (paid_at pay k (flag_at (at_flags ts ls n) fresh at m).stopped (part pay ts ls n m fresh at s))
+
+abbrev pub RegionsFallApart : Type 0
+RegionsFallApart = (s : Start) → FallsApart Run (runs s).pay × FallsApart Tallied (turns s).pay
+
+-- ---- what was cut
+
+-- it stands for the fold of any part of the nest, where the body goes on
+abbrev pub StandsCut : {S : Type 0} → Sense S → Type 0
+StandsCut sense = (ts : Store) (ls : List ℤ) (n : Nest _) → Onward sense n.body → (k : ℕ) (f : Flags) (at : ℤ) (s : _) (m : Machine)
+    → m.cut ≡ true → sense.stands s m → sense.stands (part sense.pay ts ls n k f at s) m
+
+abbrev pub CutMachinesStand : Type 0
+CutMachinesStand = (s : Start) → StandsCut (runs s) × StandsCut (turns s)
+
+-- ---- statements
+
+pub record Composes {S : Type 0} (layout : Layout) (sense : Sense S) : Type 0 where
+  pub nothing : (p : Place) → Performs layout sense p [] (λ s. s)
+  -- one after another
+  pub next : (p : Place) (c : Code) (cs : List Code) (f g : S → S) → Stay p p.facts → Over sense g
+      → Performs layout sense p (c ∷ []) f → Performs layout sense p cs g → Performs layout sense p (c ∷ cs) (λ s. g (f s))
+  -- a condition, whose test's code has the value that the language gives
+  pub when : (p : Place) (test : IExpr) (val : S → ℤ) (body : List Code) (g : S → S)
+      → ((s : S) (m : Machine) → Ready layout m p → sense.stands s m → value_in m test ≡ val s)
+      → Performs layout sense p body g → Performs layout sense p (When test (Seq body) ∷ []) (λ s. if is_off (val s) then s else g s)
+  -- a nest, whose fold is what the loop does
+  pub nest : (p : Place) (c : Code) (n : Nest S) (f : S → S) → Means layout sense c n
+      → ((m : Machine) → Ready layout m p → Fits layout (seen m) m n)
+      → ((s : S) (m : Machine) → Ready layout m p → fold sense.pay (seen m) m.locals n s ≡ f s)
+      → ((x : ℕ) → x < p.next → p.binds x ≡ false → Kept n x) → ((t : ℕ) → p.steady t ≡ true → n.steady t ≡ true)
+      → Performs layout sense p (c ∷ []) f
+
+abbrev pub StatementsCompose : Type 0
+StatementsCompose = (s : Start) (layout : Layout) → Composes layout (runs s) × Composes layout (turns s)

@@ -1,0 +1,35 @@
+//! What is proved of nests, in both senses.
+ghost use Rattle.fin_nest.specs.Both.{SensesAreLawful, ChargesAreWork, TurnsAreFree, RegionsFallApart, CutMachinesStand, StatementsCompose};
+
+/// A machine that stands for a state still does after an assignment; a turn that it counts is paid by a stop; and a stop
+/// may pay for nothing.
+pub fn senses_are_lawful()
+    ensures { SensesAreLawful }
+{}
+
+/// A charge of 1 is a step of the run's work; in turns it is kept for the turn that is counted behind it.
+pub fn charges_are_work()
+    ensures { ChargesAreWork }
+{}
+
+/// In values and charges, code that means a nest means it with a counted turn behind it.
+pub fn turns_are_free()
+    ensures { TurnsAreFree }
+{}
+
+/// Where a part of a looplet begins, a region may be cut: its fold is the fold of what is behind, after that of what is
+/// before and what a stop between them brings in.
+pub fn regions_fall_apart()
+    ensures { RegionsFallApart }
+{}
+
+/// A machine that was cut stands for the whole fold of a nest, where it stood for the state and the body goes on.
+pub fn cut_machines_stand()
+    ensures { CutMachinesStand }
+{}
+
+/// Codes that perform statements perform them one after another, and under a condition; code that means a nest performs
+/// the loop that is its fold.
+pub fn statements_compose()
+    ensures { StatementsCompose }
+{}
