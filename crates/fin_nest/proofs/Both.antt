@@ -3,10 +3,11 @@ use Rattle.std.proofs.Common.{refl}
 use Rattle.fin_ir.specs.declared.layout.Layout.{Layout}
 use Rattle.fin_nest.specs.Nests.{Sense}
 use Rattle.fin_nest.specs.Senses.{runs, turns}
-use Rattle.fin_nest.specs.Both.{SensesAreLawful, ChargesAreWork, TurnsAreFree, RegionsFallApart, CutMachinesStand, Composes, StatementsCompose}
+use Rattle.fin_nest.specs.Both.{SensesAreLawful, ChargesAreWork, TurnsAreFree, RegionsFallApart, CutMachinesStand, Composes, StatementsCompose, StatementsLift, SkippedUpdatesStand}
 use Rattle.fin_nest.proofs.Folds.{over_cut, cut_stands}
 use Rattle.fin_nest.proofs.Means.{counted_means}
 use Rattle.fin_nest.proofs.Senses.{runs_lawful, runs_charging, turns_lawful, turns_owing}
+use Rattle.fin_nest.proofs.Lifting.{trailing_performs, turning_performs, skip_behind, skip_regular}
 use Rattle.fin_nest.proofs.Statements.{performs_nothing, performs_then, performs_when, nest_performs}
 
 pub senses_are_lawful : SensesAreLawful
@@ -34,3 +35,15 @@ composes layout sense = record {
 
 pub statements_compose : StatementsCompose
 statements_compose s layout = (composes layout (runs s), composes layout (turns s))
+
+pub statements_lift : StatementsLift
+statements_lift s layout p cs f before monotone does = record {
+  in_values = trailing_performs s layout p cs f before monotone does;
+  in_turns = turning_performs s layout p cs f before monotone does;
+}
+
+pub skipped_updates_stand : SkippedUpdatesStand
+skipped_updates_stand s t at by v = record {
+  in_values = λ r m same h g. skip_behind s t at by v r m same g (h (skip_regular s t at by v r g));
+  in_turns = λ q m same h g. let k = h (skip_regular s t at by v q.run g) in record { behind = skip_behind s t at by v q.run m same g k.behind; turns = k.turns };
+}

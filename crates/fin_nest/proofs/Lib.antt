@@ -4,6 +4,7 @@ pub mod Changed
 pub mod Folds
 pub mod Means
 pub mod Senses
+pub mod Lifting
 pub mod Turns
 pub mod Statements
 pub mod Bodies

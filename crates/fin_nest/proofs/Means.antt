@@ -1,6 +1,7 @@
 -- Code that means a nest: what it computes, the turn that is counted behind it, and other looplets that show the same.
-use Rattle.std.proofs.Common.{◌≡◌, ◌≢◌, ℕ, ◌+◌, List, length, Bool, true, false, refl, sym, ap, ◌∙◌, subst, ℤ, pos, ◌+ℤ◌, ◌≤ℤ◌, ◌<ℤ◌}
+use Rattle.std.proofs.Common.{◌≡◌, ◌≢◌, ℕ, ◌+◌, List, length, Bool, true, false, refl, sym, ap, ◌∙◌, subst, ℤ, pos, negsuc, ◌+ℤ◌, ◌≤ℤ◌, ◌<ℤ◌, ◌^◌, arith}
 use Rattle.std.specs.Prelude.{slice_set, if◌then◌else◌}
+use borrow.Author.Differences.{le_out, lt_out, at_most_in}
 use Rattle.fin_ir.specs.declared.expression.IExpr.{IExpr}
 use Rattle.fin_ir.specs.declared.code.Code.{Code}
 use Rattle.fin_ir.specs.declared.layout.Layout.{Layout}
@@ -10,10 +11,11 @@ use Rattle.fin_ir.specs.Meaning.{meaning}
 use Rattle.fin_looplet.specs.declared.looplet.Looplet.{Looplet}
 use Rattle.fin_looplet.specs.Names.{Loads}
 use Rattle.fin_looplet.specs.View.{Store, value}
+use Rattle.fin_looplet.specs.Sound.{Near}
 use Rattle.fin_looplet.specs.Like.{AllLike}
 use Rattle.fin_looplet.specs.Lists.{views, AnyOwns}
 use Rattle.fin_looplet.proofs.Exprs.{get, value_seen}
-use Rattle.fin_nest.specs.Nests.{Nest, Sense, views_of, fold, Separate, Does, Means, MeansCounted}
+use Rattle.fin_nest.specs.Nests.{Nest, Sense, views_of, fold, Separate, Bounds, Does, Means, MeansCounted}
 use Rattle.fin_nest.specs.Laws.{Lawful}
 use Rattle.fin_nest.proofs.Folds.{shown}
 
@@ -24,6 +26,10 @@ unbound false h = refl
 
 pub not_the_variable : {S : Type 0} (n : Nest S) → Separate n → (x : ℕ) → n.binds x ≡ false → x ≢ n.var
 not_the_variable n apart x free e = let b = apart.binds_var in let f = ap n.binds e in cc
+
+-- the coordinates of a region that fits are near
+pub near_in : (lo hi i : ℤ) → Bounds lo hi → lo ≤ℤ i → i <ℤ hi → Near i
+near_in lo hi i b above under = (at_most_in (negsuc (2 ^ 42)) i (omega (arith, le_out (pos 0) lo b.low, le_out lo i above)), at_most_in i (pos (2 ^ 42 + 2 ^ 41)) (omega (arith, lt_out i hi under, le_out hi (pos (2 ^ 40)) b.high_top)))
 
 -- ---- machines that aren't cut
 

@@ -1,12 +1,10 @@
 -- The two senses keep the laws: assignments, counted turns, charges, and what is cut.
-use Rattle.std.proofs.Common.{◌≡◌, ℕ, ◌+◌, ◌≤◌, inl, inr, Bool, true, false, ⊎_elim, List, [], refl, sym, ap, subst, ℤ, arith, T, if◌then◌else◌}
+use Rattle.std.proofs.Common.{◌≡◌, ℕ, ◌+◌, ◌≤◌, inl, inr, Bool, true, false, ⊎_elim, List, [], refl, sym, ap, subst, ℤ, arith, if◌then◌else◌}
 use Rattle.std.specs.Prelude.{slice_set}
 use Rattle.std.proofs.Math.ListN.{length-set}
-use Rattle.fin_ir.specs.declared.code.Code.{Code}
-use Rattle.fin_ir.specs.declared.layout.Layout.{Layout}
 use Rattle.fin_ir.specs.Machine.{Machine, assign, count_turn}
-use Rattle.fin_stage.specs.Staged.{Run, worked, unalive}
-use Rattle.fin_stage.specs.Trailing.{RunTrails, Monotone}
+use Rattle.fin_stage.specs.Staged.{Run, worked}
+use Rattle.fin_stage.specs.Trailing.{RunTrails}
 use Rattle.fin_stage.proofs.Onward.{Onward, onward_still}
 use Rattle.fin_stage.proofs.Trailing.{run_itself, regular_before, worked_trails}
 use Rattle.fin_read.specs.Steps.{Agree}
@@ -15,8 +13,7 @@ use Rattle.fin_nest.specs.Related.{Start, Live, Related}
 use Rattle.fin_nest.specs.Nests.{Body}
 use Rattle.fin_nest.specs.Laws as laws
 use Rattle.fin_nest.specs.Laws.{Lawful, Charges, Owing}
-use Rattle.fin_nest.specs.Senses.{Stands, exact, Behind, runs, Tallied, turns}
-use Rattle.fin_nest.specs.Performs.{Place, Performs}
+use Rattle.fin_nest.specs.Senses.{Behind, runs, Tallied, turns}
 use Rattle.fin_nest.proofs.Still.{Stills}
 use Rattle.fin_nest.proofs.Pinning.{alive, live_as, live_locals, goes_on}
 use Rattle.fin_nest.proofs.Changed.{number_pays, worked_live}
@@ -128,18 +125,3 @@ module _ (s : Start) where
       let n : Tallied = body ss begins i t in
       let k = h (regular_before t.run n.run (raises.on ss begins i t) g) in
       record { behind = cut_behind t.run n.run m (raises.on ss begins i t) cut k.behind; turns = omega (arith, k.turns, raises.tally ss begins i t, raises.owed ss begins i t) }
-
-  -- ---- from machines that do what a run does to those that trail
-
-  -- of an irregular run nothing is said
-  nothing_said : (r : Run) (m : Machine) → Stands s (unalive r) m
-  nothing_said r m g = let e : false ≡ true = g in absurd (subst T (sym e) tt)
-
-  pub lifted : (layout : Layout) (p : Place) (cs : List Code) (f : Run → Run) → ((r : Run) → Onward r (f r)) → Monotone f → Performs layout (exact s) p cs f → Performs layout (runs s) p cs f
-  lifted layout p cs f on mono does = record {
-    does = λ r m ready h g.
-        let k = h (regular_before r (f r) (on r) g) in
-        let t = mono r k.run k.trails g in
-        record { run = f k.run; trails = t; related = does.does k.run m ready (λ e. k.related) (t.regular g) };
-    leaves = λ r m ready h. does.leaves (unalive r) m ready (nothing_said r m);
-  }

@@ -1,5 +1,5 @@
 -- Codes of statements one after another, and under a condition; and nests as statements.
-use Rattle.std.proofs.Common.{◌≡◌, ℕ, ◌<◌, Bool, true, false, List, [], ◌∷◌, if◌then◌else◌, refl, sym, ap, ◌∙◌, subst, ℤ}
+use Rattle.std.proofs.Common.{◌≡◌, ℕ, ◌<◌, Bool, true, false, List, [], ◌∷◌, ◌++◌, if◌then◌else◌, refl, sym, ap, ◌∙◌, subst, ℤ}
 use Rattle.fin_ir.specs.declared.expression.IExpr.{IExpr}
 use Rattle.fin_ir.specs.declared.code.Code.{Code}
 use Rattle.fin_ir.specs.declared.code.Code.TheVariants.{Seq, When}
@@ -35,6 +35,10 @@ left_same : (m : Machine) (p : Place) → Left m m p
 left_same m p = record { long = refl; kept = λ c x lt f. refl; steady = λ c t e. refl }
 
 -- ---- one after another
+pub all_append : (layout : Layout) (xs ys : List Code) (m : Machine) → meaning_all layout (xs ++ ys) m ≡ meaning_all layout ys (meaning_all layout xs m)
+all_append layout [] ys m = refl
+all_append layout (x ∷ xs) ys m = all_append layout xs ys (meaning layout x m)
+
 pub performs_nothing : {S : Type 0} (layout : Layout) (sense : Sense S) (p : Place) → Performs layout sense p [] (λ s. s)
 performs_nothing layout sense p = record { does = λ s m r h. h; leaves = λ s m r h. left_same m p }
 

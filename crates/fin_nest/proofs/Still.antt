@@ -25,7 +25,7 @@ either_still false m x y p q = q
 -- ---- loops, over any body
 
 module _ (body : Action) (s : Stills body) where
-  for_turn_still : (var : ℕ) (at : ℤ) → Stills (for_turn var body at)
+  pub for_turn_still : (var : ℕ) (at : ℤ) → Stills (for_turn var body at)
   for_turn_still var at m e = ap (λ (n : Machine). count_turn (body n)) (live_still m _ e) ∙ then_still body count_turn s (λ n d. live_still n _ d) m e
 
   pub for_turns_still : (var fuel : ℕ) (at : ℤ) → Stills (for_turns var body fuel at)
@@ -33,14 +33,14 @@ module _ (body : Action) (s : Stills body) where
   for_turns_still var (suc fuel) at m e = ap (for_turns var body fuel (at +ℤ pos 1)) (for_turn_still var at m e) ∙ for_turns_still var fuel (at +ℤ pos 1) m e
 
   module _ (var until : ℕ) (stop : Machine → ℤ) (hi : ℤ) where
-    step_turn_still : (at next : ℤ) → Stills (step_turn var until body hi at next)
+    pub step_turn_still : (at next : ℤ) → Stills (step_turn var until body hi at next)
     step_turn_still at next m e =
         ap (λ (n : Machine). count_before next hi (body (assign until next n))) (live_still m _ e)
         ∙ ap (λ (n : Machine). count_before next hi (body n)) (live_still m _ e)
         ∙ ap (count_before next hi) (s m e)
         ∙ either_still (int_lt next hi) m _ m (live_still m _ e) refl
 
-    step_turns_still : (fuel : ℕ) (at : ℤ) → Stills (step_turns var until stop body hi fuel at)
+    pub step_turns_still : (fuel : ℕ) (at : ℤ) → Stills (step_turns var until stop body hi fuel at)
     step_turns_still zero at m e = refl
     step_turns_still (suc fuel) at m e =
         let next = next_of var stop hi at m in

@@ -1,17 +1,20 @@
 -- What holds in both senses.
-use Rattle.std.specs.Prelude.{◌≡◌, ℕ, ◌+◌, ◌<◌, ◌⊎◌, List, [], ◌∷◌, true, false, if◌then◌else◌, ℤ, pos, ◌+ℤ◌}
+use Rattle.std.specs.Prelude.{◌≡◌, ℕ, ◌+◌, ◌<◌, ◌≤◌, ◌⊎◌, List, [], ◌∷◌, true, false, if◌then◌else◌, ℤ, pos, ◌+ℤ◌}
+use Rattle.fin_base.specs.declared.reduce.Reduce.{Reduce}
 use Rattle.fin_ir.specs.declared.expression.IExpr.{IExpr}
 use Rattle.fin_ir.specs.declared.code.Code.{Code}
 use Rattle.fin_ir.specs.declared.code.Code.TheVariants.{Seq, When}
 use Rattle.fin_ir.specs.declared.layout.Layout.{Layout}
 use Rattle.fin_ir.specs.Machine.{Machine, seen}
 use Rattle.fin_ir.specs.Value.{value_in, is_off}
-use Rattle.fin_stage.specs.Staged.{Run, worked}
+use Rattle.fin_ir.specs.Meaning.{meaning_all}
+use Rattle.fin_stage.specs.Staged.{Run, worked, regular}
+use Rattle.fin_stage.specs.Trailing.{Monotone, skipped, ChangesNothing}
 use Rattle.fin_looplet.specs.View.{Store}
 use Rattle.fin_nest.specs.Related.{Start}
 use Rattle.fin_nest.specs.Nests.{Flags, fresh, flag_at, Nest, Sense, paid_at, at_flags, part, fold, Kept, Fits, Means, MeansCounted}
 use Rattle.fin_nest.specs.Laws.{Lawful, Onward, Over, Charges, Owing}
-use Rattle.fin_nest.specs.Senses.{runs, Tallied, turns}
+use Rattle.fin_nest.specs.Senses.{exact, runs, Tallied, turns}
 use Rattle.fin_nest.specs.Performs.{Place, Stay, Ready, Performs}
 
 -- ---- the laws
@@ -34,6 +37,41 @@ ChargesAreWork = (s : Start) → Charges s.layout (runs s) (worked 1) × Owing s
 -- where stops bring nothing in, a code that means a nest means it with a counted turn
 abbrev pub TurnsAreFree : Type 0
 TurnsAreFree = (s : Start) (layout : Layout) (c : Code) (n : Nest Run) → Means layout (runs s) c n → MeansCounted layout (runs s) c n
+
+-- ---- what the run does, and what it may leave out
+
+-- what ends regular was regular before
+abbrev pub RegularBefore : (Run → Run) → Type 0
+RegularBefore f = (r : Run) → regular (f r) ≡ true → regular r ≡ true
+
+-- done to the run of a tally
+abbrev pub in_run : (Run → Run) → Tallied → Tallied
+in_run f t = record t { run = f t.run }
+
+-- the codes count no turn and take back no charge
+abbrev pub Uncounted : Layout → Place → List Code → Type 0
+Uncounted layout p cs = (m : Machine) → Ready layout m p
+    → ((meaning_all layout cs m).turns ≡ m.turns) × (m.charges ≤ (meaning_all layout cs m).charges)
+
+-- Codes that perform a statement where a machine does what a run does perform it in both senses, if the statement does the
+-- same to a run that trails.
+pub record Lifts (s : Start) (layout : Layout) (p : Place) (cs : List Code) (f : Run → Run) : Type 0 where
+  pub in_values : Performs layout (runs s) p cs f
+  pub in_turns : Uncounted layout p cs → Performs layout (turns s) p cs (in_run f)
+
+abbrev pub StatementsLift : Type 0
+StatementsLift = (s : Start) (layout : Layout) (p : Place) (cs : List Code) (f : Run → Run)
+    → RegularBefore f → Monotone f → Performs layout (exact s) p cs f → Lifts s layout p cs f
+
+-- a machine that leaves out an update that changes nothing stands for the run that does it
+pub record SkipStands (s : Start) (t : ℕ) (at : List ℤ) (by : Reduce) (v : ℤ) : Type 0 where
+  pub in_values : (r : Run) (m : Machine) → ChangesNothing t at by v r
+      → (runs s).stands r m → (runs s).stands (skipped s.setting t at by v r) m
+  pub in_turns : (q : Tallied) (m : Machine) → ChangesNothing t at by v q.run
+      → (turns s).stands q m → (turns s).stands (in_run (skipped s.setting t at by v) q) m
+
+abbrev pub SkippedUpdatesStand : Type 0
+SkippedUpdatesStand = (s : Start) (t : ℕ) (at : List ℤ) (by : Reduce) (v : ℤ) → SkipStands s t at by v
 
 -- ---- regions in parts
 

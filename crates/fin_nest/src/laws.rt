@@ -1,5 +1,5 @@
 //! What is proved of nests, in both senses.
-ghost use Rattle.fin_nest.specs.Both.{SensesAreLawful, ChargesAreWork, TurnsAreFree, RegionsFallApart, CutMachinesStand, StatementsCompose};
+ghost use Rattle.fin_nest.specs.Both.{SensesAreLawful, ChargesAreWork, TurnsAreFree, RegionsFallApart, CutMachinesStand, StatementsCompose, StatementsLift, SkippedUpdatesStand};
 
 /// A machine that stands for a state still does after an assignment; a turn that it counts is paid by a stop; and a stop
 /// may pay for nothing.
@@ -32,4 +32,15 @@ pub fn cut_machines_stand()
 /// the loop that is its fold.
 pub fn statements_compose()
     ensures { StatementsCompose }
+{}
+
+/// Codes that perform a statement for machines that do what a run does perform it in both senses: where the statement does
+/// the same to a run that trails, and in turns where they count none.
+pub fn statements_lift()
+    ensures { StatementsLift }
+{}
+
+/// A machine that leaves out an update that changes nothing stands for the run that does it.
+pub fn skipped_updates_stand()
+    ensures { SkippedUpdatesStand }
 {}

@@ -13,7 +13,8 @@
 //! The laws say what code of loops may rest on, in both senses. The senses keep assignments, counted turns and charges. A
 //! region may be cut where a part begins. A machine that was cut stands for the whole fold of a body that goes on. And codes
 //! of statements that perform what they should (`specs/Performs.antt`) do so one after another, under a condition, and as a
-//! nest that code means.
+//! nest that code means; what performs a statement for machines that do what a run does performs it in both senses; and
+//! updates that change nothing may be left out.
 #![tactic(auto)]
 
 mod laws;
