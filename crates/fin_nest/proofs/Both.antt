@@ -1,9 +1,12 @@
 -- What every lawful sense has, in both senses.
 use Rattle.std.proofs.Common.{refl}
 use Rattle.fin_ir.specs.declared.layout.Layout.{Layout}
+use Rattle.fin_stage.specs.Staged.{worked}
 use Rattle.fin_nest.specs.Nests.{Sense}
 use Rattle.fin_nest.specs.Senses.{runs, turns}
-use Rattle.fin_nest.specs.Both.{SensesAreLawful, ChargesAreWork, TurnsAreFree, RegionsFallApart, CutMachinesStand, Composes, StatementsCompose, StatementsLift, SkippedUpdatesStand}
+use Rattle.fin_nest.specs.Both.{SensesAreLawful, ChargesAreWork, TurnsAreFree, RegionsFallApart, CutMachinesStand, Composes, StatementsCompose, StatementsLift, SkippedUpdatesStand, tally_worked, owe_one, BodiesMean}
+use Rattle.fin_nest.specs.Performs.{body_code}
+use Rattle.fin_nest.proofs.Bodies.{body_means, body_counted}
 use Rattle.fin_nest.proofs.Folds.{over_cut, cut_stands}
 use Rattle.fin_nest.proofs.Means.{counted_means}
 use Rattle.fin_nest.proofs.Senses.{runs_lawful, runs_charging, turns_lawful, turns_owing}
@@ -46,4 +49,12 @@ pub skipped_updates_stand : SkippedUpdatesStand
 skipped_updates_stand s t at by v = record {
   in_values = λ r m same h g. skip_behind s t at by v r m same g (h (skip_regular s t at by v r g));
   in_turns = λ q m same h g. let k = h (skip_regular s t at by v q.run g) in record { behind = skip_behind s t at by v q.run m same g k.behind; turns = k.turns };
+}
+
+pub bodies_mean : BodiesMean
+bodies_mean s cs = record {
+  in_values = λ n apart b.
+      let means = body_means s.layout (runs s) (runs_lawful s) (worked 1) n apart cs b (runs_charging s) in
+      (means, turns_are_free s s.layout (body_code n cs) n means);
+  in_turns = λ n apart b commutes. body_counted s.layout (turns s) (turns_lawful s) tally_worked n apart cs b owe_one (turns_owing s) commutes;
 }

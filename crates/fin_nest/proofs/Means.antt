@@ -15,7 +15,7 @@ use Rattle.fin_looplet.specs.Sound.{Near}
 use Rattle.fin_looplet.specs.Like.{AllLike}
 use Rattle.fin_looplet.specs.Lists.{views, AnyOwns}
 use Rattle.fin_looplet.proofs.Exprs.{get, value_seen}
-use Rattle.fin_nest.specs.Nests.{Nest, Sense, views_of, fold, Separate, Bounds, Does, Means, MeansCounted}
+use Rattle.fin_nest.specs.Nests.{Nest, Sense, views_of, fold, Kept, Separate, Bounds, Does, Means, MeansCounted}
 use Rattle.fin_nest.specs.Laws.{Lawful}
 use Rattle.fin_nest.proofs.Folds.{shown}
 
@@ -64,20 +64,38 @@ counted_keeps false m = record { locals = refl; seen = λ t. refl; cut = refl }
 pub count_keeps : (m : Machine) → CountKeeps m
 count_keeps m = let k = counted_keeps m.cut m in record { locals = k.locals; seen = k.seen; cut = k.cut }
 
+-- ---- what code of a nest leaves as it was
+pub record Leaves {S : Type 0} (m m' : Machine) (n : Nest S) : Type 0 where
+  pub long : length m'.locals ≡ length m.locals
+  pub kept : m'.cut ≡ false → (x : ℕ) → Kept n x → get m'.locals x ≡ get m.locals x
+  pub steady : m'.cut ≡ false → (t : ℕ) → n.steady t ≡ true → seen m' t ≡ seen m t
+
+pub does_by : {S : Type 0} (sense : Sense S) (ts : Store) (s : S) (m m' : Machine) (n : Nest S) → sense.stands (fold sense.pay ts m.locals n s) m' → Leaves m m' n → Does sense ts s m m' n
+does_by sense ts s m m' n done l = record { done = done; long = l.long; kept = l.kept; steady = l.steady }
+
+pub leaves_of : {S : Type 0} (sense : Sense S) (ts : Store) (s : S) (m m' : Machine) (n : Nest S) → Does sense ts s m m' n → Leaves m m' n
+leaves_of sense ts s m m' n d = record { long = d.long; kept = d.kept; steady = d.steady }
+
+-- with a turn that is counted behind it
+pub leaves_counted : {S : Type 0} (m m' : Machine) (n : Nest S) → Leaves m m' n → Leaves m (count_turn m') n
+leaves_counted m m' n l =
+    let k = count_keeps m' in
+    record {
+      long = ap length k.locals ∙ l.long;
+      kept = λ e x j. ap (λ ls. get ls x) k.locals ∙ l.kept (sym k.cut ∙ e) x j;
+      steady = λ e t j. k.seen t ∙ l.steady (sym k.cut ∙ e) t j;
+    }
+
 -- where stops bring nothing in, a code that means the nest means it with a counted turn
 pub counted_means : {S : Type 0} (layout : Layout) (sense : Sense S) → Lawful sense → ((s : S) → sense.pay s ≡ s) → (c : Code) (n : Nest S) → Means layout sense c n → MeansCounted layout sense c n
 counted_means layout sense law free c n mean = record {
   does = λ ts s m fits r.
       let d = mean.does ts s m fits r in
       let last : Machine = meaning layout c m in
-      let k = count_keeps last in
       let all = fold sense.pay ts m.locals n s in
-      record {
-        done = subst (λ z. sense.stands z (count_turn last)) (free all) (law.count all last d.done);
-        long = ap length k.locals ∙ d.long;
-        kept = λ e x j. ap (λ ls. get ls x) k.locals ∙ d.kept (sym k.cut ∙ e) x j;
-        steady = λ e t j. k.seen t ∙ d.steady (sym k.cut ∙ e) t j;
-      };
+      does_by sense ts s m (count_turn last) n
+      (subst (λ z. sense.stands z (count_turn last)) (free all) (law.count all last d.done))
+      (leaves_counted m last n (leaves_of sense ts s m last n d));
 }
 
 -- ---- a nest with other looplets that show the same in its region

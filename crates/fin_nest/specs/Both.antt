@@ -10,12 +10,12 @@ use Rattle.fin_ir.specs.Value.{value_in, is_off}
 use Rattle.fin_ir.specs.Meaning.{meaning_all}
 use Rattle.fin_stage.specs.Staged.{Run, worked, regular}
 use Rattle.fin_stage.specs.Trailing.{Monotone, skipped, ChangesNothing}
-use Rattle.fin_looplet.specs.View.{Store}
+use Rattle.fin_looplet.specs.View.{Store, Seen}
 use Rattle.fin_nest.specs.Related.{Start}
-use Rattle.fin_nest.specs.Nests.{Flags, fresh, flag_at, Nest, Sense, paid_at, at_flags, part, fold, Kept, Fits, Means, MeansCounted}
+use Rattle.fin_nest.specs.Nests.{Flags, fresh, flag_at, Nest, Sense, paid_at, at_flags, part, fold, Kept, Separate, Fits, Means, MeansCounted}
 use Rattle.fin_nest.specs.Laws.{Lawful, Onward, Over, Charges, Owing}
 use Rattle.fin_nest.specs.Senses.{exact, runs, Tallied, turns}
-use Rattle.fin_nest.specs.Performs.{Place, Stay, Ready, Performs}
+use Rattle.fin_nest.specs.Performs.{Place, Stay, Ready, Performs, body_code, IsBody}
 
 -- ---- the laws
 
@@ -116,3 +116,17 @@ pub record Composes {S : Type 0} (layout : Layout) (sense : Sense S) : Type 0 wh
 
 abbrev pub StatementsCompose : Type 0
 StatementsCompose = (s : Start) (layout : Layout) → Composes layout (runs s) × Composes layout (turns s)
+
+-- ---- bodies
+
+-- The code of a body means its nest: in values and charges, with a counted turn behind it or not; and in turns with one,
+-- where the statements don't look at what is kept for it.
+pub record BodyMeans (s : Start) (cs : List Code) : Type 0 where
+  pub in_values : (n : Nest Run) → Separate n → IsBody s.layout (runs s) (worked 1) n cs
+      → Means s.layout (runs s) (body_code n cs) n × MeansCounted s.layout (runs s) (body_code n cs) n
+  pub in_turns : (n : Nest Tallied) → Separate n → (b : IsBody s.layout (turns s) tally_worked n cs)
+      → ((ss : List Seen) (i : ℤ) (t : Tallied) → b.does ss i (owe_one t) ≡ owe_one (b.does ss i t))
+      → MeansCounted s.layout (turns s) (body_code n cs) n
+
+abbrev pub BodiesMean : Type 0
+BodiesMean = (s : Start) (cs : List Code) → BodyMeans s cs

@@ -1,5 +1,5 @@
 //! What is proved of nests, in both senses.
-ghost use Rattle.fin_nest.specs.Both.{SensesAreLawful, ChargesAreWork, TurnsAreFree, RegionsFallApart, CutMachinesStand, StatementsCompose, StatementsLift, SkippedUpdatesStand};
+ghost use Rattle.fin_nest.specs.Both.{SensesAreLawful, ChargesAreWork, TurnsAreFree, RegionsFallApart, CutMachinesStand, StatementsCompose, StatementsLift, SkippedUpdatesStand, BodiesMean};
 
 /// A machine that stands for a state still does after an assignment; a turn that it counts is paid by a stop; and a stop
 /// may pay for nothing.
@@ -43,4 +43,10 @@ pub fn statements_lift()
 /// A machine that leaves out an update that changes nothing stands for the run that does it.
 pub fn skipped_updates_stand()
     ensures { SkippedUpdatesStand }
+{}
+
+/// A charge, the coordinate in its variable's local, and codes that perform the body's statements mean the nest of one
+/// coordinate: in values and charges, and in turns with the turn that is counted behind it.
+pub fn bodies_mean()
+    ensures { BodiesMean }
 {}
