@@ -4,12 +4,13 @@ use Rattle.fin_ir.specs.declared.layout.Layout.{Layout}
 use Rattle.fin_stage.specs.Staged.{worked}
 use Rattle.fin_nest.specs.Nests.{Sense}
 use Rattle.fin_nest.specs.Senses.{runs, turns}
-use Rattle.fin_nest.specs.Both.{SensesAreLawful, ChargesAreWork, TurnsAreFree, RegionsFallApart, CutMachinesStand, Composes, StatementsCompose, StatementsLift, SkippedUpdatesStand, tally_worked, owe_one, BodiesMean}
+use Rattle.fin_nest.specs.Both.{SensesAreLawful, ChargesAreWork, TurnsAreFree, RegionsFallApart, FoldsAreLoops, CutMachinesStand, Composes, StatementsCompose, StatementsLift, SkippedUpdatesStand, tally_worked, owe_one, BodiesMean}
 use Rattle.fin_nest.specs.Performs.{body_code}
 use Rattle.fin_nest.proofs.Bodies.{body_means, body_counted}
 use Rattle.fin_nest.proofs.Folds.{over_cut, cut_stands}
 use Rattle.fin_nest.proofs.Means.{counted_means}
 use Rattle.fin_nest.proofs.Senses.{runs_lawful, runs_charging, turns_lawful, turns_owing}
+use Rattle.fin_nest.proofs.Repeated.{loop_is}
 use Rattle.fin_nest.proofs.Lifting.{trailing_performs, turning_performs, skip_behind, skip_regular}
 use Rattle.fin_nest.proofs.Statements.{performs_nothing, performs_then, performs_when, nest_performs}
 
@@ -24,6 +25,9 @@ turns_are_free s layout c n mean = counted_means layout (runs s) (runs_lawful s)
 
 pub regions_fall_apart : RegionsFallApart
 regions_fall_apart s = (over_cut (runs s).pay, over_cut (turns s).pay)
+
+pub folds_are_loops : FoldsAreLoops
+folds_are_loops = loop_is
 
 pub cut_machines_stand : CutMachinesStand
 cut_machines_stand s = (cut_stands (runs s) (runs_lawful s), cut_stands (turns s) (turns_lawful s))

@@ -1,18 +1,16 @@
 -- The fold of a nest is the loop of dense evaluation, where at each coordinate the body is that of the statements.
-use Rattle.std.proofs.Common.{◌≡◌, ℕ, zero, suc, ◌+◌, ◌<◌, Bool, true, false, List, refl, sym, ap, ◌∙◌, ℤ, pos, ◌+ℤ◌, arith}
+use Rattle.std.proofs.Common.{◌≡◌, ℕ, zero, suc, ◌+◌, ◌<◌, Bool, true, false, refl, sym, ap, ◌∙◌, ℤ, pos, ◌+ℤ◌, arith}
 use Rattle.std.specs.Prelude.{slice_set}
 use borrow.Author.Differences.{sum_is_lem, same_in}
-use Rattle.fin_ast.specs.Value.{Numbers}
 use Rattle.fin_ir.specs.Meaning.{span}
 use Rattle.fin_stage.specs.Staged as staged
-use Rattle.fin_looplet.specs.View.{Store, value}
+use Rattle.fin_looplet.specs.View.{value}
 use Rattle.fin_looplet.specs.Lists.{seens}
-use Rattle.fin_nest.specs.Nests.{over, Flags, fresh, Nest, paid_if, views_of, at_act, at_flags, part, fold}
+use Rattle.fin_nest.specs.Nests.{over, Flags, fresh, paid_if, views_of, at_act, at_flags, part}
+use Rattle.fin_nest.specs.Both.{FoldsAreLoops}
 use Rattle.fin_nest.proofs.Folds.{over_same}
 
-pub loop_is : (ts : Store) (ls : List ℤ) (n : Nest staged.Run) (var lo : ℕ) (body : staged.Action) (vars : Numbers) (r : staged.Run) → value ts ls n.lo ≡ pos lo
-    → ((j : ℕ) (b : Bool) (x : staged.Run) → j < span (value ts ls n.lo) (value ts ls n.hi) → n.body (seens (views_of ts ls n (pos (lo + j)))) b (pos (lo + j)) x ≡ body (slice_set vars var (pos (lo + j))) (staged.worked 1 x))
-    → fold (λ x. x) ts ls n r ≡ staged.repeated (span (value ts ls n.lo) (value ts ls n.hi)) lo var body vars r
+pub loop_is : FoldsAreLoops
 loop_is ts ls n var lo body vars r from same =
     ap (λ z. part (λ x. x) ts ls n (span (value ts ls n.lo) (value ts ls n.hi)) fresh z r) from
     ∙ over_same (at_act (λ x. x) ts ls n) dense (at_flags ts ls n) (at_flags ts ls n) (span (value ts ls n.lo) (value ts ls n.hi)) fresh (pos lo) r (λ j lt b x. alike j lt b x) (λ j lt. refl)

@@ -19,7 +19,7 @@ use Rattle.fin_nest.proofs.Still.{all_still}
 pub hold_on : (p : Place) (fs : List Fact) (m m' : Machine) → Left m m' p → m'.cut ≡ false → Stay p fs → Hold m fs → Hold m' fs
 hold_on p [] m m' l c st h = tt
 hold_on p (f ∷ fs) m m' l c st h =
-    (value_alike f.0 (seen m') (seen m) m'.locals m.locals (λ x n. let k = st.0.0 x n in l.kept c x k.0 k.1) (λ t n. l.steady c t (st.0.1 t n)) ∙ h.0, hold_on p fs m m' l c st.1 h.1)
+    (value_alike f.0 (seen m') (seen m) m'.locals m.locals (λ x n. let k = st.0.locals x n in l.kept c x k.0 k.1) (λ t n. l.steady c t (st.0.tensors t n)) ∙ h.0, hold_on p fs m m' l c st.1 h.1)
 
 left_then : (a b c : Machine) (p : Place) → Left a b p → Left b c p → (b.cut ≡ true → c ≡ b) → Left a c p
 left_then a b c p x y still = record {

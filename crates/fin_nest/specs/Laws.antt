@@ -28,18 +28,21 @@ Over sense f = (s : _) (m : Machine) → m.cut ≡ true → sense.stands s m →
 
 -- ---- charges
 
+abbrev pub charged_one : Machine → Machine
+charged_one m = record m { charges = m.charges + 1 }
+
 -- code that charges 1
 abbrev pub Pays : Layout → Type 0
-Pays layout = (m : Machine) → m.cut ≡ false → meaning layout (Charge (Num (pos 1))) m ≡ record m { charges = m.charges + 1 }
+Pays layout = (m : Machine) → m.cut ≡ false → meaning layout (Charge (Num (pos 1))) m ≡ charged_one m
 
 -- a charge of 1 is work in a sense
 pub record Charges {S : Type 0} (layout : Layout) (sense : Sense S) (work : S → S) : Type 0 where
-  pub does : (s : S) (m : Machine) → m.cut ≡ false → sense.stands s m → sense.stands (work s) (record m { charges = m.charges + 1 })
+  pub does : (s : S) (m : Machine) → m.cut ≡ false → sense.stands s m → sense.stands (work s) (charged_one m)
   pub pays : Pays layout
 
 -- a charge of 1 is work, and is kept for a counted turn
 pub record Owing {S : Type 0} (layout : Layout) (sense : Sense S) (work owe : S → S) : Type 0 where
-  pub charge : (s : S) (m : Machine) → m.cut ≡ false → sense.stands s m → sense.stands (owe (work s)) (record m { charges = m.charges + 1 })
+  pub charge : (s : S) (m : Machine) → m.cut ≡ false → sense.stands s m → sense.stands (owe (work s)) (charged_one m)
   pub repay : (s : S) (m : Machine) → sense.stands (owe s) m → sense.stands s (count_turn m)
   pub pays : Pays layout
 
@@ -47,7 +50,8 @@ pub record Owing {S : Type 0} (layout : Layout) (sense : Sense S) (work owe : S 
 
 -- over runs and lookups the body does the same whether a part begins or not
 abbrev pub Flagless : {S : Type 0} → Nest S → Type 0
-Flagless n = (ts : Store) (ls : List ℤ) (b : Bool) (i : ℤ) (s : _) → n.body (seens (views_of ts ls n i)) b i s ≡ n.body (seens (views_of ts ls n i)) true i s
+Flagless n = (ts : Store) (ls : List ℤ) (b : Bool) (i : ℤ) (s : _)
+    → n.body (seens (views_of ts ls n i)) b i s ≡ n.body (seens (views_of ts ls n i)) true i s
 
 -- what is seen, but for whether it varies
 abbrev pub bare : Seen → Sight

@@ -45,7 +45,8 @@ Body S = List Seen → Bool → ℤ → S → S
 
 -- A loop from `lo` on and before `hi` with the variable in the local `var`, over a looplet for each read. `next` is the
 -- first free local, `binds` are the locals of its variable and of those that its body binds, `pins` the words that the
--- body asks of locals, `steady` the tensors that it leaves as they are, and `counts` says whose stops bring something in.
+-- body asks of locals, and `steady` the tensors that it leaves as they are. `counts` says, looplet by looplet, whose stops
+-- bring something in.
 pub record Nest (S : Type 0) : Type 0 where
   pub var : ℕ
   pub binds : ℕ → Bool
@@ -81,7 +82,10 @@ at_act pay ts ls n f i s = n.body (seens (views_of ts ls n i)) f.begins i (paid_
 
 -- the flags of the coordinate after it
 abbrev pub at_flags : {S : Type 0} → Store → List ℤ → Nest S → ℤ → Flags
-at_flags ts ls n i = record { begins = any_ends (views_of ts ls n i); stopped = any_counted n.counts (views_of ts ls n i) }
+at_flags ts ls n i = record {
+  begins = any_ends (views_of ts ls n i);
+  stopped = any_counted n.counts (views_of ts ls n i);
+}
 
 -- so many coordinates of the nest
 abbrev pub part : {S : Type 0} → (S → S) → Store → List ℤ → Nest S → ℕ → Flags → ℤ → S → S
@@ -120,6 +124,10 @@ pub record Bounds (lo hi : ℤ) : Type 0 where
   pub high : pos 0 ≤ℤ hi
   pub high_top : hi ≤ℤ pos (2 ^ 40)
 
+-- each looplet is sound in the region
+abbrev pub AllSoundIn : Store → List ℤ → List Looplet → ℤ → ℤ → Type 0
+AllSoundIn ts ls reads lo hi = (i : ℤ) → lo ≤ℤ i → i <ℤ hi → AllSound Near ts ls reads (λ j. j <ℤ hi) i
+
 -- ---- what code means
 
 -- a machine in which the senses speak of the nest: `ts` has the tensors that it loads from
@@ -129,13 +137,14 @@ pub record Fits {S : Type 0} (layout : Layout) (ts : Store) (m : Machine) (n : N
   pub steady : (t : ℕ) → n.steady t ≡ true → seen m t ≡ ts t
   pub pinned : (x : ℕ) (v : ℤ) → n.pins x ≡ Some v → slice_index_or m.locals x (pos 0) ≡ v
   pub bounds : Bounds (value ts m.locals n.lo) (value ts m.locals n.hi)
-  pub sound : (i : ℤ) → value ts m.locals n.lo ≤ℤ i → i <ℤ value ts m.locals n.hi → AllSound Near ts m.locals n.reads (λ j. j <ℤ value ts m.locals n.hi) i
+  pub sound : AllSoundIn ts m.locals n.reads (value ts m.locals n.lo) (value ts m.locals n.hi)
 
 -- one machine is what the nest leaves of the other; of a machine that was cut only what it stands for is said
 pub record Does {S : Type 0} (sense : Sense S) (ts : Store) (s : S) (m m' : Machine) (n : Nest S) : Type 0 where
   pub done : sense.stands (fold sense.pay ts m.locals n s) m'
   pub long : length m'.locals ≡ length m.locals
-  pub kept : m'.cut ≡ false → (x : ℕ) → Kept n x → slice_index_or m'.locals x (pos 0) ≡ slice_index_or m.locals x (pos 0)
+  pub kept : m'.cut ≡ false → (x : ℕ) → Kept n x
+      → slice_index_or m'.locals x (pos 0) ≡ slice_index_or m.locals x (pos 0)
   pub steady : m'.cut ≡ false → (t : ℕ) → n.steady t ≡ true → seen m' t ≡ seen m t
 
 -- the code means the nest in a sense

@@ -29,10 +29,15 @@ abbrev pub Hold : Machine → List Fact → Type 0
 Hold m [] = Unit {0}
 Hold m (f ∷ fs) = (value_in m f.0 ≡ f.1) × Hold m fs
 
--- the code changes nothing that a fact depends on
+-- the code changes nothing that the expression depends on
+pub record Stays (p : Place) (e : IExpr) : Type 0 where
+  pub locals : (x : ℕ) → Names x e → (x < p.next) × (p.binds x ≡ false)
+  pub tensors : (t : ℕ) → Loads t e → p.steady t ≡ true
+
+-- and so no fact does
 abbrev pub Stay : Place → List Fact → Type 0
 Stay p [] = Unit {0}
-Stay p (f ∷ fs) = (((x : ℕ) → Names x f.0 → (x < p.next) × (p.binds x ≡ false)) × ((t : ℕ) → Loads t f.0 → p.steady t ≡ true)) × Stay p fs
+Stay p (f ∷ fs) = Stays p f.0 × Stay p fs
 
 -- a machine before the code
 pub record Ready (layout : Layout) (m : Machine) (p : Place) : Type 0 where
@@ -43,11 +48,13 @@ pub record Ready (layout : Layout) (m : Machine) (p : Place) : Type 0 where
 -- a machine behind it; of one that was cut nothing is said
 pub record Left (m m' : Machine) (p : Place) : Type 0 where
   pub long : length m'.locals ≡ length m.locals
-  pub kept : m'.cut ≡ false → (x : ℕ) → x < p.next → p.binds x ≡ false → slice_index_or m'.locals x (pos 0) ≡ slice_index_or m.locals x (pos 0)
+  pub kept : m'.cut ≡ false → (x : ℕ) → x < p.next → p.binds x ≡ false
+      → slice_index_or m'.locals x (pos 0) ≡ slice_index_or m.locals x (pos 0)
   pub steady : m'.cut ≡ false → (t : ℕ) → p.steady t ≡ true → seen m' t ≡ seen m t
 
 -- the codes, one after another, lead from what stands for a state to what stands for its image
-pub record Performs {S : Type 0} (layout : Layout) (sense : Sense S) (p : Place) (cs : List Code) (f : S → S) : Type 0 where
+pub record Performs {S : Type 0} (layout : Layout) (sense : Sense S) (p : Place) (cs : List Code) (f : S → S)
+    : Type 0 where
   pub does : (s : S) (m : Machine) → Ready layout m p → sense.stands s m → sense.stands (f s) (meaning_all layout cs m)
   pub leaves : (s : S) (m : Machine) → Ready layout m p → sense.stands s m → Left m (meaning_all layout cs m) p
 
@@ -61,9 +68,10 @@ charge_one = Charge (Num (pos 1))
 abbrev pub body_code : {S : Type 0} → Nest S → List Code → Code
 body_code n cs = Seq (charge_one ∷ Assign n.var n.lo ∷ cs)
 
--- The codes are the nest's body. By what the reads see and by the coordinate they stand at a place, where they do `does`;
--- and the body does that after the coordinate's work.
-pub record IsBody {S : Type 0} (layout : Layout) (sense : Sense S) (work : S → S) (n : Nest S) (cs : List Code) : Type 0 where
+-- The codes are the nest's body. By what the reads see and by the coordinate they stand at a place, where they do
+-- `does`; and the body does that after the coordinate's work.
+pub record IsBody {S : Type 0} (layout : Layout) (sense : Sense S) (work : S → S) (n : Nest S) (cs : List Code)
+    : Type 0 where
   pub at : List Seen → ℤ → Place
   pub does : List Seen → ℤ → S → S
   pub room : n.var < layout.locals

@@ -1,5 +1,5 @@
 //! What is proved of nests, in both senses.
-ghost use Rattle.fin_nest.specs.Both.{SensesAreLawful, ChargesAreWork, TurnsAreFree, RegionsFallApart, CutMachinesStand, StatementsCompose, StatementsLift, SkippedUpdatesStand, BodiesMean};
+ghost use Rattle.fin_nest.specs.Both.{SensesAreLawful, ChargesAreWork, TurnsAreFree, RegionsFallApart, FoldsAreLoops, CutMachinesStand, StatementsCompose, StatementsLift, SkippedUpdatesStand, BodiesMean};
 
 /// A machine that stands for a state still does after an assignment; a turn that it counts is paid by a stop; and a stop
 /// may pay for nothing.
@@ -21,6 +21,12 @@ pub fn turns_are_free()
 /// before and what a stop between them brings in.
 pub fn regions_fall_apart()
     ensures { RegionsFallApart }
+{}
+
+/// Where at each coordinate a nest's body is a turn of a loop of dense evaluation, with its work, the nest's fold is that loop
+/// of the run by stages.
+pub fn folds_are_loops()
+    ensures { FoldsAreLoops }
 {}
 
 /// A machine that was cut stands for the whole fold of a nest, where it stood for the state and the body goes on.

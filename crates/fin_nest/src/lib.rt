@@ -20,6 +20,6 @@
 mod laws;
 
 pub use laws::{
-    charges_are_work, cut_machines_stand, regions_fall_apart, senses_are_lawful,
+    charges_are_work, cut_machines_stand, folds_are_loops, regions_fall_apart, senses_are_lawful,
     statements_compose, turns_are_free,
 };
