@@ -45,7 +45,8 @@ changed_to t x m = record m { tensors = slice_set m.tensors t x }
 
 module _ (s : Start) (pins : List ℤ) (r : Run) (m : Machine) (live : Live s pins r m) where
   -- a tensor that isn't given is led to another stage
-  pub changed_live : (t : ℕ) (x : Stage) (y : Tensor) → t < length s.setting.headers → is_made s.setting t ≡ true → Stand x y → StageFits s.setting t x → Live s pins (with_stage t x r) (changed_to t y m)
+  pub changed_live : (t : ℕ) (x : Stage) (y : Tensor) → t < length s.setting.headers → is_made s.setting t ≡ true → Stand x y → StageFits s.setting t x
+      → Live s pins (with_stage t x r) (changed_to t y m)
   changed_live t x y lt made stand fit =
       let tensors : t < length m.tensors = omega (arith, live.tensors) in
       let stages : t < length r.stages = omega (arith, live.stages) in
@@ -61,7 +62,8 @@ module _ (s : Start) (pins : List ℤ) (r : Run) (m : Machine) (live : Live s pi
         stages = length-set r.stages t x ∙ live.stages;
         each = λ j. ⊎_elim
             (λ (e : j ≡ t). subst (λ (k : ℕ). Stand (stage_at (slice_set r.stages t x) k) (held (slice_set m.tensors t y) k)) (sym e)
-            (subst (λ (z : Stage). Stand z (held (slice_set m.tensors t y) t)) (sym (get_or-set_same r.stages t x Absent stages)) (subst (Stand x) (sym (get_or-set_same m.tensors t y nothing tensors)) stand)))
+            (subst (λ (z : Stage). Stand z (held (slice_set m.tensors t y) t)) (sym (get_or-set_same r.stages t x Absent stages))
+            (subst (Stand x) (sym (get_or-set_same m.tensors t y nothing tensors)) stand)))
             (λ (n : j ≢ t). subst (λ (z : Stage). Stand z (held (slice_set m.tensors t y) j)) (sym (get_or-set_other r.stages t j x Absent n))
             (subst (Stand (stage_at r.stages j)) (sym (get_or-set_other m.tensors t j y nothing n)) (live.each j)))
             (cases_eq j t);

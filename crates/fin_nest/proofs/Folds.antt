@@ -19,13 +19,15 @@ pub further : (at : ℤ) (j : ℕ) → (at +ℤ pos 1) +ℤ pos j ≡ at +ℤ po
 further at j = same_in ((at +ℤ pos 1) +ℤ pos j) (at +ℤ pos (suc j)) (omega (arith, sum_is_lem (at +ℤ pos 1) (pos j), sum_is_lem at (pos 1), sum_is_lem at (pos (suc j))))
 
 -- folds that do the same and have the same flags
-pub over_same : {F S : Type 0} (f g : F → ℤ → S → S) (p q : ℤ → F) (n : ℕ) (b : F) (at : ℤ) (s : S) → ((j : ℕ) → j < n → (b : F) (s : S) → f b (at +ℤ pos j) s ≡ g b (at +ℤ pos j) s) → ((j : ℕ) → suc j < n → p (at +ℤ pos j) ≡ q (at +ℤ pos j)) → over f p n b at s ≡ over g q n b at s
+pub over_same : {F S : Type 0} (f g : F → ℤ → S → S) (p q : ℤ → F) (n : ℕ) (b : F) (at : ℤ) (s : S) → ((j : ℕ) → j < n → (b : F) (s : S) → f b (at +ℤ pos j) s ≡ g b (at +ℤ pos j) s)
+    → ((j : ℕ) → suc j < n → p (at +ℤ pos j) ≡ q (at +ℤ pos j)) → over f p n b at s ≡ over g q n b at s
 over_same f g p q zero b at s h k = refl
 over_same f g p q (suc zero) b at s h k = ap (λ i. f b i s) (here at) ∙ h 0 (omega arith) b s ∙ sym (ap (λ i. g b i s) (here at))
 over_same {F = F} {S = S} f g p q (suc (suc n)) b at s h k =
     let first : f b at s ≡ g b at s = ap (λ i. f b i s) (here at) ∙ h 0 (omega arith) b s ∙ sym (ap (λ i. g b i s) (here at)) in
     let flag : p at ≡ q at = ap p (here at) ∙ k 0 (omega arith) ∙ sym (ap q (here at)) in
-    let rest : (j : ℕ) → j < suc n → (b : F) (s : S) → f b ((at +ℤ pos 1) +ℤ pos j) s ≡ g b ((at +ℤ pos 1) +ℤ pos j) s = (λ j lt b s. ap (λ i. f b i s) (further at j) ∙ h (suc j) (omega arith) b s ∙ sym (ap (λ i. g b i s) (further at j))) in
+    let rest : (j : ℕ) → j < suc n → (b : F) (s : S) → f b ((at +ℤ pos 1) +ℤ pos j) s ≡ g b ((at +ℤ pos 1) +ℤ pos j) s =
+    (λ j lt b s. ap (λ i. f b i s) (further at j) ∙ h (suc j) (omega arith) b s ∙ sym (ap (λ i. g b i s) (further at j))) in
     let flags : (j : ℕ) → suc j < suc n → p ((at +ℤ pos 1) +ℤ pos j) ≡ q ((at +ℤ pos 1) +ℤ pos j) = (λ j lt. ap p (further at j) ∙ k (suc j) (omega arith) ∙ sym (ap q (further at j))) in
     over_same f g p q (suc n) (p at) (at +ℤ pos 1) (f b at s) rest flags ∙ ap (λ x. over g q (suc n) x (at +ℤ pos 1) (f b at s)) flag ∙ ap (over g q (suc n) (q at) (at +ℤ pos 1)) first
 
@@ -66,13 +68,15 @@ pub record Shows {S : Type 0} (ts : Store) (ls ls' : List ℤ) (n n' : Nest S) (
   pub like : (i : ℤ) → a ≤ℤ i → i <ℤ c → AllLike ((i +ℤ pos 1) <ℤ c) (views_of ts ls' n' i) (views_of ts ls n i)
 
 -- its fold is then a part of the other's
-pub shown : {S : Type 0} (pay : S → S) (ts : Store) (ls ls' : List ℤ) (n n' : Nest S) (a c : ℤ) (s : S) → n'.body ≡ n.body → n'.counts ≡ n.counts → Shows ts ls ls' n n' a c → fold pay ts ls' n' s ≡ part pay ts ls n (span a c) fresh a s
+pub shown : {S : Type 0} (pay : S → S) (ts : Store) (ls ls' : List ℤ) (n n' : Nest S) (a c : ℤ) (s : S) → n'.body ≡ n.body → n'.counts ≡ n.counts → Shows ts ls ls' n n' a c
+    → fold pay ts ls' n' s ≡ part pay ts ls n (span a c) fresh a s
 shown {S = S} pay ts ls ls' n n' a c s body counts sh =
     let f = at_act pay ts ls' n' in
     let p = at_flags ts ls' n' in
     let g = at_act pay ts ls n in
     let q = at_flags ts ls n in
-    let inside : (j : ℕ) → j < span a c → (a ≤ℤ (a +ℤ pos j)) × ((a +ℤ pos j) <ℤ c) = (λ j lt. (at_most_in a (a +ℤ pos j) (omega (arith, sum_is_lem a (pos j))), below_in (a +ℤ pos j) c (omega (arith, lt, span_is a c, sum_is_lem a (pos j))))) in
+    let inside : (j : ℕ) → j < span a c → (a ≤ℤ (a +ℤ pos j)) × ((a +ℤ pos j) <ℤ c) =
+    (λ j lt. (at_most_in a (a +ℤ pos j) (omega (arith, sum_is_lem a (pos j))), below_in (a +ℤ pos j) c (omega (arith, lt, span_is a c, sum_is_lem a (pos j))))) in
     let acts : (j : ℕ) → j < span a c → (b : Flags) (s : S) → f b (a +ℤ pos j) s ≡ g b (a +ℤ pos j) s = (λ j lt b s.
     let i = a +ℤ pos j in
     let vs' = views_of ts ls' n' i in
@@ -86,7 +90,9 @@ shown {S = S} pay ts ls ls' n n' a c s body counts sh =
     let vs = views_of ts ls n i in
     let x = below_in (i +ℤ pos 1) c (omega (arith, lt, span_is a c, sum_is_lem a (pos j), sum_is_lem i (pos 1))) in
     let l = sh.like i (inside j (omega (arith, lt))).0 (inside j (omega (arith, lt))).1 in
-    ap (λ b. record { begins = b; stopped = any_counted n'.counts vs' }) (like_ends ((i +ℤ pos 1) <ℤ c) vs' vs x l) ∙ ap (λ (bs : List Bool). record { begins = any_ends vs; stopped = any_counted bs vs' }) counts ∙ ap (λ b. record { begins = any_ends vs; stopped = b }) (like_counted n.counts ((i +ℤ pos 1) <ℤ c) vs' vs x l)) in
+    ap (λ b. record { begins = b; stopped = any_counted n'.counts vs' }) (like_ends ((i +ℤ pos 1) <ℤ c) vs' vs x l)
+    ∙ ap (λ (bs : List Bool). record { begins = any_ends vs; stopped = any_counted bs vs' }) counts
+    ∙ ap (λ b. record { begins = any_ends vs; stopped = b }) (like_counted n.counts ((i +ℤ pos 1) <ℤ c) vs' vs x l)) in
     ap (λ z. over f p (span z (value ts ls' n'.hi)) fresh z s) sh.lo ∙ ap (λ z. over f p (span a z) fresh a s) sh.hi ∙ over_same f g p q (span a c) fresh a s acts flags
 
 -- ---- what is cut stands for the whole fold
@@ -99,12 +105,15 @@ module _ {S : Type 0} (sense : Sense S) (law : Lawful sense) where
   paid_at_on zero b s m r = r
   paid_at_on (suc k) b s m r = paid_on b s m r
 
-  pub cut_stands : (ts : Store) (ls : List ℤ) (n : Nest S) → Onward sense n.body → (k : ℕ) (f : Flags) (at : ℤ) (s : S) (m : Machine) → m.cut ≡ true → sense.stands s m → sense.stands (part sense.pay ts ls n k f at s) m
+  pub cut_stands : (ts : Store) (ls : List ℤ) (n : Nest S) → Onward sense n.body → (k : ℕ) (f : Flags) (at : ℤ) (s : S) (m : Machine) → m.cut ≡ true → sense.stands s m
+      → sense.stands (part sense.pay ts ls n k f at s) m
   cut_stands ts ls n on zero f at s m c r = r
   cut_stands ts ls n on (suc k) f at s m c r =
-      cut_stands ts ls n on k (at_flags ts ls n at) (at +ℤ pos 1) (at_act sense.pay ts ls n f at s) m c (on (seens (views_of ts ls n at)) f.begins at (paid_if sense.pay f.stopped s) m c (paid_on f.stopped s m r))
+      cut_stands ts ls n on k (at_flags ts ls n at) (at +ℤ pos 1) (at_act sense.pay ts ls n f at s) m c
+      (on (seens (views_of ts ls n at)) f.begins at (paid_if sense.pay f.stopped s) m c (paid_on f.stopped s m r))
 
 -- what a body doesn't look at, its fold doesn't
-pub over_commutes : {F S : Type 0} (f : F → ℤ → S → S) (p : ℤ → F) (g : S → S) → ((b : F) (i : ℤ) (s : S) → f b i (g s) ≡ g (f b i s)) → (n : ℕ) (b : F) (at : ℤ) (s : S) → over f p n b at (g s) ≡ g (over f p n b at s)
+pub over_commutes : {F S : Type 0} (f : F → ℤ → S → S) (p : ℤ → F) (g : S → S) → ((b : F) (i : ℤ) (s : S) → f b i (g s) ≡ g (f b i s)) → (n : ℕ) (b : F) (at : ℤ) (s : S)
+    → over f p n b at (g s) ≡ g (over f p n b at s)
 over_commutes f p g h zero b at s = refl
 over_commutes f p g h (suc n) b at s = ap (over f p n (p at) (at +ℤ pos 1)) (h b at s) ∙ over_commutes f p g h n (p at) (at +ℤ pos 1) (f b at s)

@@ -37,7 +37,8 @@ keeps_listed t e (stored s) m = keeps_refused t m
 
 keeps_changed : (e : Effect) (x : Tensor) (m : Machine) → Keeps e.tensor m (changed_by e x m)
 keeps_changed e nothing m = keeps_listed e.tensor e (held m.shared e.tensor) m
-keeps_changed e (building b) m = either_keeps e.tensor (can_update b e.at) m (set_tensor e.tensor (building (put e b)) m) (refused m) (keeps_set e.tensor (building (put e b)) m) (keeps_refused e.tensor m)
+keeps_changed e (building b) m =
+    either_keeps e.tensor (can_update b e.at) m (set_tensor e.tensor (building (put e b)) m) (refused m) (keeps_set e.tensor (building (put e b)) m) (keeps_refused e.tensor m)
 keeps_changed e (stored s) m = keeps_refused e.tensor m
 
 keeps_at : (t : ℕ) (o : Option (List ℕ)) (by : Reduce) (v : ℤ) (m : Machine) → Keeps t m (update_at t o by v m)
@@ -53,7 +54,8 @@ keeps_charge t v m = either_keeps t m.cut m m (paid (whole v) m) (keeps_same t m
 -- ---- a freeze keeps other tensors and all locals
 keeps_frozen : (t : ℕ) (x : Tensor) (m : Machine) → Keeps t m (frozen_at t x m)
 keeps_frozen t nothing m = record { locals = refl; seen = λ j n. refl; turns = refl; charges = omega arith }
-keeps_frozen t (building b) m = either_keeps t (is_large b) m (cut_off m) (set_tensor t (stored (canon b)) m) (record { locals = refl; seen = λ j n. refl; turns = refl; charges = omega arith }) (keeps_set t (stored (canon b)) m)
+keeps_frozen t (building b) m =
+    either_keeps t (is_large b) m (cut_off m) (set_tensor t (stored (canon b)) m) (record { locals = refl; seen = λ j n. refl; turns = refl; charges = omega arith }) (keeps_set t (stored (canon b)) m)
 keeps_frozen t (stored s) m = record { locals = refl; seen = λ j n. refl; turns = refl; charges = omega arith }
 
 pub keeps_freeze : (t : ℕ) (m : Machine) → Keeps t m (freeze t m)

@@ -39,7 +39,8 @@ module _ (s : Start) where
     }
 
   -- a machine that leaves the update out
-  pub skip_behind : (t : ℕ) (at : List ℤ) (by : Reduce) (v : ℤ) (r : Run) (m : Machine) → ChangesNothing t at by v r → regular (skipped s.setting t at by v r) ≡ true → Behind s r m → Behind s (skipped s.setting t at by v r) m
+  pub skip_behind : (t : ℕ) (at : List ℤ) (by : Reduce) (v : ℤ) (r : Run) (m : Machine) → ChangesNothing t at by v r → regular (skipped s.setting t at by v r) ≡ true → Behind s r m
+      → Behind s (skipped s.setting t at by v r) m
   skip_behind t at by v r m same g h = record { run = h.run; trails = skip_trails r h.run t h.trails s.setting at by v same g; related = h.related }
 
   pub skip_regular : (t : ℕ) (at : List ℤ) (by : Reduce) (v : ℤ) → RegularBefore (skipped s.setting t at by v)

@@ -29,7 +29,10 @@ not_the_variable n apart x free e = let b = apart.binds_var in let f = ap n.bind
 
 -- the coordinates of a region that fits are near
 pub near_in : (lo hi i : ℤ) → Bounds lo hi → lo ≤ℤ i → i <ℤ hi → Near i
-near_in lo hi i b above under = (at_most_in (negsuc (2 ^ 42)) i (omega (arith, le_out (pos 0) lo b.low, le_out lo i above)), at_most_in i (pos (2 ^ 42 + 2 ^ 41)) (omega (arith, lt_out i hi under, le_out hi (pos (2 ^ 40)) b.high_top)))
+near_in lo hi i b above under = (
+  at_most_in (negsuc (2 ^ 42)) i (omega (arith, le_out (pos 0) lo b.low, le_out lo i above)),
+  at_most_in i (pos (2 ^ 42 + 2 ^ 41)) (omega (arith, lt_out i hi under, le_out hi (pos (2 ^ 40)) b.high_top)),
+)
 
 -- ---- machines that aren't cut
 
@@ -40,7 +43,8 @@ pub assigns : (x : ℕ) (v : ℤ) (m : Machine) → m.cut ≡ false → assign x
 assigns x v m e = ap (λ (b : Bool). if b then m else with_local x v m) e
 
 -- what code computes from tensors that stay as they were
-pub computes : {S : Type 0} (layout : Layout) (ts : Store) (m : Machine) (n : Nest S) (e : IExpr) → ((t : ℕ) → n.steady t ≡ true → seen m t ≡ ts t) → ((t : ℕ) → Loads t e → n.steady t ≡ true) → value_in m e ≡ value ts m.locals e
+pub computes : {S : Type 0} (layout : Layout) (ts : Store) (m : Machine) (n : Nest S) (e : IExpr) → ((t : ℕ) → n.steady t ≡ true → seen m t ≡ ts t)
+    → ((t : ℕ) → Loads t e → n.steady t ≡ true) → value_in m e ≡ value ts m.locals e
 computes layout ts m n e same steady = value_seen (seen m) ts e m.locals (λ t l. same t (steady t l))
 
 -- a counted turn leaves locals and tensors as they were
@@ -100,10 +104,12 @@ counted_means layout sense law free c n mean = record {
 
 -- ---- a nest with other looplets that show the same in its region
 pub reshaped : {S : Type 0} (sense : Sense S) (n : Nest S) (rs : List Looplet) → ((x : ℕ) → AnyOwns x rs → AnyOwns x n.reads) → (ts : Store) (s : S) (m m' : Machine)
-    → ((i : ℤ) → value ts m.locals n.lo ≤ℤ i → i <ℤ value ts m.locals n.hi → AllLike ((i +ℤ pos 1) <ℤ value ts m.locals n.hi) (views ts m.locals rs (value ts m.locals n.hi) i) (views_of ts m.locals n i))
+    → ((i : ℤ) → value ts m.locals n.lo ≤ℤ i → i <ℤ value ts m.locals n.hi
+    → AllLike ((i +ℤ pos 1) <ℤ value ts m.locals n.hi) (views ts m.locals rs (value ts m.locals n.hi) i) (views_of ts m.locals n i))
     → Does sense ts s m m' (record n { reads = rs }) → Does sense ts s m m' n
 reshaped sense n rs owns ts s m m' like d = record {
-  done = subst (λ z. sense.stands z m') (shown sense.pay ts m.locals m.locals n (record n { reads = rs }) (value ts m.locals n.lo) (value ts m.locals n.hi) s refl refl (record { lo = refl; hi = refl; like = like })) d.done;
+  done = subst (λ z. sense.stands z m')
+      (shown sense.pay ts m.locals m.locals n (record n { reads = rs }) (value ts m.locals n.lo) (value ts m.locals n.hi) s refl refl (record { lo = refl; hi = refl; like = like })) d.done;
   long = d.long;
   kept = λ c x k. d.kept c x (record { below = k.below; no_var = k.no_var; no_own = λ o. k.no_own (owns x o) });
   steady = d.steady;

@@ -33,4 +33,6 @@ module _ (s : Start) where
 
   -- what goes on stands for it where it is cut
   pub onward_over : (f : Run → Run) → ((r : Run) → Onward r (f r)) → laws.Over (exact s) f
-  onward_over f on r m cut h g = ⊎_elim (λ l. let e = l.cut in absurd (cc)) (λ x. let o = on r in inr (record { cut = x.cut; regular = x.regular; over = x.over; most = omega (arith, x.most, o.work) })) (h (regular_before r (f r) (on r) g))
+  onward_over f on r m cut h g = ⊎_elim
+      (λ l. let e = l.cut in absurd (cc))
+      (λ x. let o = on r in inr (record { cut = x.cut; regular = x.regular; over = x.over; most = omega (arith, x.most, o.work) })) (h (regular_before r (f r) (on r) g))

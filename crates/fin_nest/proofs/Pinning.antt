@@ -34,7 +34,8 @@ pub same_but_set : (var : ℕ) (v : ℤ) (ps qs : List ℤ) → SameBut var ps q
 same_but_set var v ps qs s = record { long = length-set ps var v ∙ s.long; same = λ k ne. get_or-set_other ps var k v (pos 0) ne ∙ s.same k ne }
 
 -- the variable is set in both
-pub agree_bound : (n var : ℕ) (v : ℤ) (ps qs : List ℤ) (vars : Numbers) → var < length ps → var < length vars → SameBut var ps qs → Agree n qs vars → Agree n (slice_set ps var v) (slice_set vars var v)
+pub agree_bound : (n var : ℕ) (v : ℤ) (ps qs : List ℤ) (vars : Numbers) → var < length ps → var < length vars → SameBut var ps qs → Agree n qs vars
+    → Agree n (slice_set ps var v) (slice_set vars var v)
 agree_bound n var v ps qs vars hp hv s a k lt = ⊎_elim
     (λ (e : k ≡ var). ap (at (slice_set ps var v)) e ∙ get_or-set_same ps var v (pos 0) hp ∙ sym (ap (at (slice_set vars var v)) e ∙ get_or-set_same vars var v (pos 0) hv))
     (λ (ne : k ≢ var). get_or-set_other ps var k v (pos 0) ne ∙ s.same k ne ∙ a k lt ∙ sym (get_or-set_other vars var k v (pos 0) ne))
@@ -80,8 +81,11 @@ module _ (s : Start) where
   pub live_set : (ps : List ℤ) (r : Run) (m : Machine) (local : ℕ) (v : ℤ) → local < length ps → length ps ≤ s.layout.locals → Live s ps r m → Live s (slice_set ps local v) r (assign local v m)
   live_set ps r m local v lt le l =
       let room : local < length m.locals = omega (arith, lt, le, l.locals) in
-      let a : Agree (length (slice_set ps local v)) (slice_set m.locals local v) (slice_set ps local v) = subst (λ n. Agree n (slice_set m.locals local v) (slice_set ps local v)) (sym (length-set ps local v)) (agree_bound (length ps) local v m.locals m.locals ps room lt (same_but_itself local m.locals) l.pinned) in
-      subst (Live s (slice_set ps local v) r) (sym (alive m (record m { locals = slice_set m.locals local v }) l.cut)) (live_locals ps (slice_set ps local v) (slice_set m.locals local v) r m (length-set m.locals local v) a l)
+      let a : Agree (length (slice_set ps local v)) (slice_set m.locals local v) (slice_set ps local v) =
+      subst (λ n. Agree n (slice_set m.locals local v) (slice_set ps local v)) (sym (length-set ps local v))
+      (agree_bound (length ps) local v m.locals m.locals ps room lt (same_but_itself local m.locals) l.pinned) in
+      subst (Live s (slice_set ps local v) r) (sym (alive m (record m { locals = slice_set m.locals local v }) l.cut))
+      (live_locals ps (slice_set ps local v) (slice_set m.locals local v) r m (length-set m.locals local v) a l)
 
   -- the local behind the first ones is set
   pub live_more : (ps : List ℤ) (r : Run) (m : Machine) (v : ℤ) → length ps < s.layout.locals → Live s ps r m → Live s (ps ++ v ∷ []) r (assign (length ps) v m)

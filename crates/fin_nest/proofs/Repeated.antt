@@ -25,10 +25,14 @@ loop_is ts ls n var lo body vars r from same =
       alike : (j : ℕ) → j < span (value ts ls n.lo) (value ts ls n.hi) → (b : Flags) (x : staged.Run) → at_act (λ y. y) ts ls n b (pos lo +ℤ pos j) x ≡ dense b (pos lo +ℤ pos j) x
       alike j lt b x =
           let e : pos lo +ℤ pos j ≡ pos (lo + j) = same_in _ _ (omega (arith, sum_is_lem (pos lo) (pos j))) in
-          ap (λ i. at_act (λ y. y) ts ls n b i x) e ∙ ap (n.body (seens (views_of ts ls n (pos (lo + j)))) b.begins (pos (lo + j))) (free b.stopped x) ∙ same j b.begins x lt ∙ sym (ap (λ i. dense b i x) e)
+          ap (λ i. at_act (λ y. y) ts ls n b i x) e
+          ∙ ap (n.body (seens (views_of ts ls n (pos (lo + j)))) b.begins (pos (lo + j))) (free b.stopped x)
+          ∙ same j b.begins x lt
+          ∙ sym (ap (λ i. dense b i x) e)
 
       go : (k at : ℕ) (b : Flags) (x : staged.Run) → over dense (at_flags ts ls n) k b (pos at) x ≡ staged.repeated k at var body vars x
       go zero at b x = refl
       go (suc k) at b x =
           let e : pos at +ℤ pos 1 ≡ pos (at + 1) = same_in _ _ (omega (arith, sum_is_lem (pos at) (pos 1))) in
-          ap (λ i. over dense (at_flags ts ls n) k (at_flags ts ls n (pos at)) i (body (slice_set vars var (pos at)) (staged.worked 1 x))) e ∙ go k (at + 1) (at_flags ts ls n (pos at)) (body (slice_set vars var (pos at)) (staged.worked 1 x))
+          ap (λ i. over dense (at_flags ts ls n) k (at_flags ts ls n (pos at)) i (body (slice_set vars var (pos at)) (staged.worked 1 x))) e
+          ∙ go k (at + 1) (at_flags ts ls n (pos at)) (body (slice_set vars var (pos at)) (staged.worked 1 x))

@@ -16,6 +16,7 @@ use Rattle.fin_nest.specs.Laws.{Lawful, Charges, Owing}
 use Rattle.fin_nest.specs.Senses.{Behind, runs, Tallied, turns}
 use Rattle.fin_nest.proofs.Still.{Stills}
 use Rattle.fin_nest.proofs.Pinning.{alive, live_as, live_locals, goes_on}
+use Rattle.fin_nest.proofs.Means.{with_local}
 use Rattle.fin_nest.proofs.Changed.{number_pays, worked_live}
 
 pub assign_still : (x : ℕ) (v : ℤ) → Stills (assign x v)
@@ -27,10 +28,16 @@ count_still m e = ap (λ (b : Bool). if b then m else record m { turns = m.turns
 -- ---- what turns and charges come to
 
 assign_turns : (x : ℕ) (v : ℤ) (m : Machine) → ((assign x v m).turns ≡ m.turns) × ((assign x v m).charges ≡ m.charges)
-assign_turns x v m = elim m.cut as (λ b. ((if b then m else record m { locals = slice_set m.locals x v }).turns ≡ m.turns) × ((if b then m else record m { locals = slice_set m.locals x v }).charges ≡ m.charges)) [ true ↦ (refl, refl) | false ↦ (refl, refl) ]
+assign_turns x v m = by m.cut where
+  by : (b : Bool) → ((if b then m else with_local x v m).turns ≡ m.turns) × ((if b then m else with_local x v m).charges ≡ m.charges)
+  by true = (refl, refl)
+  by false = (refl, refl)
 
 pub count_turns : (m : Machine) → ((count_turn m).turns ≤ m.turns + 1) × ((count_turn m).charges ≡ m.charges)
-count_turns m = elim m.cut as (λ b. ((if b then m else record m { turns = m.turns + 1 }).turns ≤ m.turns + 1) × ((if b then m else record m { turns = m.turns + 1 }).charges ≡ m.charges)) [ true ↦ (omega arith, refl) | false ↦ (omega arith, refl) ]
+count_turns m = by m.cut where
+  by : (b : Bool) → ((if b then m else record m { turns = m.turns + 1 }).turns ≤ m.turns + 1) × ((if b then m else record m { turns = m.turns + 1 }).charges ≡ m.charges)
+  by true = (omega arith, refl)
+  by false = (omega arith, refl)
 
 -- ---- bodies
 

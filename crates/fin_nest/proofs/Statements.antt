@@ -42,12 +42,14 @@ all_append layout (x ∷ xs) ys m = all_append layout xs ys (meaning layout x m)
 pub performs_nothing : {S : Type 0} (layout : Layout) (sense : Sense S) (p : Place) → Performs layout sense p [] (λ s. s)
 performs_nothing layout sense p = record { does = λ s m r h. h; leaves = λ s m r h. left_same m p }
 
-pub performs_then : {S : Type 0} (layout : Layout) (sense : Sense S) (p : Place) (c : Code) (cs : List Code) (f g : S → S) → Stay p p.facts → Over sense g → Performs layout sense p (c ∷ []) f → Performs layout sense p cs g → Performs layout sense p (c ∷ cs) (λ s. g (f s))
+pub performs_then : {S : Type 0} (layout : Layout) (sense : Sense S) (p : Place) (c : Code) (cs : List Code) (f g : S → S) → Stay p p.facts → Over sense g
+    → Performs layout sense p (c ∷ []) f → Performs layout sense p cs g → Performs layout sense p (c ∷ cs) (λ s. g (f s))
 performs_then {S = S} layout sense p c cs f g stay on first rest = record {
   does = λ s m r h. (by s m r h (meaning layout c m).cut refl).0;
   leaves = λ s m r h. (by s m r h (meaning layout c m).cut refl).1;
 } where
-  by : (s : S) (m : Machine) → Ready layout m p → sense.stands s m → (k : Bool) → (meaning layout c m).cut ≡ k → sense.stands (g (f s)) (meaning_all layout cs (meaning layout c m)) × Left m (meaning_all layout cs (meaning layout c m)) p
+  by : (s : S) (m : Machine) → Ready layout m p → sense.stands s m → (k : Bool) → (meaning layout c m).cut ≡ k
+      → sense.stands (g (f s)) (meaning_all layout cs (meaning layout c m)) × Left m (meaning_all layout cs (meaning layout c m)) p
   by s m r h true e =
       let mid = meaning layout c m in
       let still = all_still layout cs mid e in
@@ -60,14 +62,18 @@ performs_then {S = S} layout sense p c cs f g stay on first rest = record {
       (rest.does (f s) mid ready after, left_then m mid (meaning_all layout cs mid) p l (rest.leaves (f s) mid ready after) (all_still layout cs mid))
 
 -- ---- a condition, whose test's code has the value that the language gives
-pub performs_when : {S : Type 0} (layout : Layout) (sense : Sense S) (p : Place) (test : IExpr) (val : S → ℤ) (body : List Code) (g : S → S) → ((s : S) (m : Machine) → Ready layout m p → sense.stands s m → value_in m test ≡ val s)
+pub performs_when : {S : Type 0} (layout : Layout) (sense : Sense S) (p : Place) (test : IExpr) (val : S → ℤ) (body : List Code) (g : S → S)
+    → ((s : S) (m : Machine) → Ready layout m p → sense.stands s m → value_in m test ≡ val s)
     → Performs layout sense p body g → Performs layout sense p (When test (Seq body) ∷ []) (λ s. if is_off (val s) then s else g s)
 performs_when {S = S} layout sense p test val body g means inner = record {
   does = λ s m r h. subst (sense.stands (if is_off (val s) then s else g s)) (sym (goes s m r h)) (by_does s m r h (is_off (val s)));
   leaves = λ s m r h. subst (λ (x : Machine). Left m x p) (sym (goes s m r h)) (by_leaves s m r h (is_off (val s)));
 } where
   goes : (s : S) (m : Machine) → Ready layout m p → sense.stands s m → meaning layout (When test (Seq body)) m ≡ (if is_off (val s) then m else meaning_all layout body m)
-  goes s m r h = meaning_when layout test (Seq body) m ∙ ap (λ z. if is_off z then m else meaning layout (Seq body) m) (means s m r h) ∙ ap (λ (x : Machine). if is_off (val s) then m else x) (meaning_seq layout body m)
+  goes s m r h =
+      meaning_when layout test (Seq body) m
+      ∙ ap (λ z. if is_off z then m else meaning layout (Seq body) m) (means s m r h)
+      ∙ ap (λ (x : Machine). if is_off (val s) then m else x) (meaning_seq layout body m)
 
   by_does : (s : S) (m : Machine) → Ready layout m p → sense.stands s m → (b : Bool) → sense.stands (if b then s else g s) (if b then m else meaning_all layout body m)
   by_does s m r h true = h

@@ -8,7 +8,8 @@ use Rattle.fin_nest.proofs.Still.{Stills}
 use Rattle.fin_nest.proofs.Senses.{count_still}
 
 module _ (var until : ℕ) (stop : Machine → ℤ) (body : Action) (hi : ℤ) (I : ℤ → Machine → Type 0) where
-  pub step_rule : ((at : ℤ) (m : Machine) → I at m → int_lt at hi ≡ true → I (next_of var stop hi at m) (step_turn var until body hi at (next_of var stop hi at m) m)) → (fuel : ℕ) (at : ℤ) (m : Machine) → span at hi ≤ fuel → I at m
+  pub step_rule : ((at : ℤ) (m : Machine) → I at m → int_lt at hi ≡ true → I (next_of var stop hi at m) (step_turn var until body hi at (next_of var stop hi at m) m))
+      → (fuel : ℕ) (at : ℤ) (m : Machine) → span at hi ≤ fuel → I at m
       → (end : ℤ) × (I end (step_loop var until stop body at hi m) × (int_lt end hi ≡ false))
   step_rule keeps zero at m h i = let f = span_zero at hi (omega arith) in (at, (subst (I at) (sym (step_ends var until stop body hi at m f)) i, f))
   step_rule keeps (suc fuel) at m h i =

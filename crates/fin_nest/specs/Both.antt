@@ -109,7 +109,8 @@ FoldsAreLoops = (ts : Store) (ls : List ℤ) (n : Nest Run) (var lo : ℕ) (turn
 -- it stands for the fold of any part of the nest, where the body goes on
 abbrev pub StandsCut : {S : Type 0} → Sense S → Type 0
 StandsCut sense = (ts : Store) (ls : List ℤ) (n : Nest _) → Onward sense n.body
-    → (k : ℕ) (f : Flags) (at : ℤ) (s : _) (m : Machine) → m.cut ≡ true → sense.stands s m → sense.stands (part sense.pay ts ls n k f at s) m
+    → (k : ℕ) (f : Flags) (at : ℤ) (s : _) (m : Machine) → m.cut ≡ true
+    → sense.stands s m → sense.stands (part sense.pay ts ls n k f at s) m
 
 abbrev pub CutMachinesStand : Type 0
 CutMachinesStand = (s : Start) → StandsCut (runs s) × StandsCut (turns s)

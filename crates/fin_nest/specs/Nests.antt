@@ -43,10 +43,10 @@ any_counted (counts ∷ rest) (v ∷ vs) = (counts && v.stop) || any_counted res
 abbrev pub Body : Type 0 → Type 0
 Body S = List Seen → Bool → ℤ → S → S
 
--- A loop from `lo` on and before `hi` with the variable in the local `var`, over a looplet for each read. `next` is the
--- first free local, `binds` are the locals of its variable and of those that its body binds, `pins` the words that the
--- body asks of locals, and `steady` the tensors that it leaves as they are. `counts` says, looplet by looplet, whose stops
--- bring something in.
+-- A loop from `lo` on and before `hi` with the variable in the local `var`, over a looplet for each read. `next`
+-- is the first free local, `binds` are the locals of its variable and of those that its body binds, `pins` the
+-- words that the body asks of locals, and `steady` the tensors that it leaves as they are. `counts` says, looplet
+-- by looplet, whose stops bring something in.
 pub record Nest (S : Type 0) : Type 0 where
   pub var : ℕ
   pub binds : ℕ → Bool

@@ -1,8 +1,9 @@
 //! What is proved of nests, in both senses.
-ghost use Rattle.fin_nest.specs.Both.{SensesAreLawful, ChargesAreWork, TurnsAreFree, RegionsFallApart, FoldsAreLoops, CutMachinesStand, StatementsCompose, StatementsLift, SkippedUpdatesStand, BodiesMean};
+ghost use Rattle.fin_nest.specs.Both.{SensesAreLawful, ChargesAreWork, TurnsAreFree, RegionsFallApart, FoldsAreLoops};
+ghost use Rattle.fin_nest.specs.Both.{CutMachinesStand, StatementsCompose, StatementsLift, SkippedUpdatesStand, BodiesMean};
 
-/// A machine that stands for a state still does after an assignment; a turn that it counts is paid by a stop; and a stop
-/// may pay for nothing.
+/// A machine that stands for a state still does after an assignment; a turn that it counts is paid by a stop; and a
+/// stop may pay for nothing.
 pub fn senses_are_lawful()
     ensures { SensesAreLawful }
 {}
@@ -17,14 +18,14 @@ pub fn turns_are_free()
     ensures { TurnsAreFree }
 {}
 
-/// Where a part of a looplet begins, a region may be cut: its fold is the fold of what is behind, after that of what is
-/// before and what a stop between them brings in.
+/// Where a part of a looplet begins, a region may be cut: its fold is the fold of what is behind, after that of
+/// what is before and what a stop between them brings in.
 pub fn regions_fall_apart()
     ensures { RegionsFallApart }
 {}
 
-/// Where at each coordinate a nest's body is a turn of a loop of dense evaluation, with its work, the nest's fold is that loop
-/// of the run by stages.
+/// Where at each coordinate a nest's body is a turn of a loop, with its work, the nest's fold is that loop of the
+/// run by stages.
 pub fn folds_are_loops()
     ensures { FoldsAreLoops }
 {}
@@ -34,14 +35,14 @@ pub fn cut_machines_stand()
     ensures { CutMachinesStand }
 {}
 
-/// Codes that perform statements perform them one after another, and under a condition; code that means a nest performs
-/// the loop that is its fold.
+/// Codes that perform statements perform them one after another, and under a condition; code that means a nest
+/// performs the loop that is its fold.
 pub fn statements_compose()
     ensures { StatementsCompose }
 {}
 
-/// Codes that perform a statement for machines that do what a run does perform it in both senses: where the statement does
-/// the same to a run that trails, and in turns where they count none.
+/// Codes that perform a statement for machines that do what a run does perform it in both senses: where the
+/// statement does the same to a run that trails, and in turns where they count none.
 pub fn statements_lift()
     ensures { StatementsLift }
 {}
@@ -51,8 +52,8 @@ pub fn skipped_updates_stand()
     ensures { SkippedUpdatesStand }
 {}
 
-/// A charge, the coordinate in its variable's local, and codes that perform the body's statements mean the nest of one
-/// coordinate: in values and charges, and in turns with the turn that is counted behind it.
+/// A charge, the coordinate in its variable's local, and codes that perform the body's statements mean the nest of
+/// one coordinate: in values and charges, and in turns with the turn that is counted behind it.
 pub fn bodies_mean()
     ensures { BodiesMean }
 {}
