@@ -74,7 +74,8 @@ module _ (x : Header) (n : List ℕ) (hs : List Header) (shapes : List (List ℕ
       ∙ ap (λ (bs : List (Format × List ℕ)). (x.format, n) ∷ bs) (others inputs f.2)
   by_kind others false e inputs f = others inputs f
 
-boxes_are : (hs : List Header) (shapes : List (List ℕ)) → AreShaped hs shapes → (inputs : List Storage) → HaveFormats (inputs_among hs shapes) inputs → boxes_of inputs ≡ input_boxes (kinds_of hs) (map (λ (y : Header). y.format) hs) shapes
+boxes_are : (hs : List Header) (shapes : List (List ℕ)) → AreShaped hs shapes → (inputs : List Storage) → HaveFormats (inputs_among hs shapes) inputs
+    → boxes_of inputs ≡ input_boxes (kinds_of hs) (map (λ (y : Header). y.format) hs) shapes
 boxes_are [] [] a [] f = refl
 boxes_are [] [] a (s ∷ inputs) f = absurd f
 boxes_are [] (n ∷ shapes) a inputs f = absurd a

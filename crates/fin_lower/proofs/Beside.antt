@@ -154,7 +154,8 @@ module _ (c : Checked) where
       let has = has_header (λ (h : Header). true) sc tensor p.headers (frozen_named c sc next tensor line f) in
       let last : Code = Charge (count_of (heads_in c) tensor) in
       let paid : list_all (is_named l) (charge_of 1 ∷ last ∷ []) ≡ true = one_more l (charge_of 1) (last ∷ []) (charge_named l 1) (one_more l last [] (count_charge tensor has) refl) in
-      ap (is_named l) (code_freeze (sides_in c) next tensor line) ∙ named_seq l (Freeze tensor ∷ charge_of 1 ∷ last ∷ []) (one_more l (Freeze tensor) (charge_of 1 ∷ last ∷ []) (of_freeze Bool (code_step l) tensor ∙ has) paid)
+      ap (is_named l) (code_freeze (sides_in c) next tensor line)
+      ∙ named_seq l (Freeze tensor ∷ charge_of 1 ∷ last ∷ []) (one_more l (Freeze tensor) (charge_of 1 ∷ last ∷ []) (of_freeze Bool (code_step l) tensor ∙ has) paid)
 
   thawed_is_named : (tensor line : ℕ) → Named c (s.Thaw tensor line)
   thawed_is_named tensor line sc next p f =
@@ -179,7 +180,8 @@ module _ (c : Checked) where
       let choice : Code = When (in_box (shape_of (heads_in c) tensor) xs) put in
       let choice_named : is_named l choice ≡ true = named_when l (in_box (shape_of (heads_in c) tensor) xs) put (box l (shape_of (heads_in c) tensor) xs indices) put_named in
       let tail_named : list_all (is_named l) (choice ∷ charge_of 1 ∷ []) ≡ true = one_more l choice (charge_of 1 ∷ []) choice_named (one_more l (charge_of 1) [] (charge_named l 1) refl) in
-      ap (is_named l) (code_update (sides_in c) next tensor at by value line) ∙ named_seq l (prelude v ++ choice ∷ charge_of 1 ∷ []) (some_more l (prelude v) (choice ∷ charge_of 1 ∷ []) known.0 tail_named)
+      ap (is_named l) (code_update (sides_in c) next tensor at by value line)
+      ∙ named_seq l (prelude v ++ choice ∷ charge_of 1 ∷ []) (some_more l (prelude v) (choice ∷ charge_of 1 ∷ []) known.0 tail_named)
 
   pub namings : Cases (Named c)
   namings = record {

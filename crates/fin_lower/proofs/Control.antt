@@ -65,7 +65,8 @@ module _ (c : Checked) (inputs : List Storage) where
 
   -- ---- loops
 
-  turn_goes : (body : List Stmt) → AllOf (Goes c inputs) body → (sc : Scope) (ps : List ℤ) (vars : Numbers) (var : ℕ) → var < variables_in c → Placed c sc (length ps) → BodyFits c body (within_loop sc var) (length ps + 1)
+  turn_goes : (body : List Stmt) → AllOf (Goes c inputs) body → (sc : Scope) (ps : List ℤ) (vars : Numbers) (var : ℕ) → var < variables_in c → Placed c sc (length ps)
+      → BodyFits c body (within_loop sc var) (length ps + 1)
       → length vars ≡ variables_in c → Agree (variables_in c) ps vars
       → TurnGoes c inputs var (with_saved ps var) vars (braced (stage_all (setting_of c inputs) body)) (Seq (charge_of 1 ∷ code_of_all (sides_in c) (length ps + 1) body))
   turn_goes body all sc ps vars var lt p f long same qs v r m but l g =
@@ -77,7 +78,8 @@ module _ (c : Checked) (inputs : List Storage) where
       subst (Related (start_of c inputs) words _) (sym (meaning_seq (layout_of c) (charge_of 1 ∷ code_of_all (sides_in c) (length ps + 1) body) m))
       (inner_goes body all (within_loop sc var) (length ps + 1) words (slice_set vars var (pos v)) (worked 1 r) _ e (loop_placed c sc (length ps) var lt p) f (length-set vars var (pos v) ∙ long) agree (charged c inputs words r m 1 l) g)
 
-  each_number : (var lo hi : ℕ) (turn : Code) (m : Machine) → meaning (layout_of c) (ForLoop var (Num (pos (min lo hi))) (Num (pos hi)) turn) m ≡ for_turns var (meaning (layout_of c) turn) (hi - lo) (pos lo) m
+  each_number : (var lo hi : ℕ) (turn : Code) (m : Machine)
+      → meaning (layout_of c) (ForLoop var (Num (pos (min lo hi))) (Num (pos hi)) turn) m ≡ for_turns var (meaning (layout_of c) turn) (hi - lo) (pos lo) m
   each_number var lo hi turn m =
       meaning_for_loop (layout_of c) var (Num (pos (min lo hi))) (Num (pos hi)) turn m
       ∙ ap (λ (a : ℤ). for_loop var (meaning (layout_of c) turn) a (value_in m (Num (pos hi))) m) (value_num (seen m) m.locals (pos (min lo hi)))
@@ -112,7 +114,8 @@ module _ (c : Checked) (inputs : List Storage) where
   -- ---- tests and lets
 
   module _ (sees : (ps : List ℤ) (r : Run) (m : Machine) → Live (start_of c inputs) ps r m → SeesAll (heads_in c) (seen m) (tensors_of (setting_of c inputs) r)) (values : ValuesMean) where
-    branch : (ps : List ℤ) (off : Bool) (n n' : Run) (m m' : Machine) → Live (start_of c inputs) ps n m → (regular n' ≡ true → Related (start_of c inputs) ps n' m') → regular (if off then n else n') ≡ true
+    branch : (ps : List ℤ) (off : Bool) (n n' : Run) (m m' : Machine) → Live (start_of c inputs) ps n m → (regular n' ≡ true → Related (start_of c inputs) ps n' m')
+        → regular (if off then n else n') ≡ true
         → Related (start_of c inputs) ps (if off then n else n') (if off then m else m')
     branch ps true n n' m m' l go g = inl l
     branch ps false n n' m m' l go g = go g

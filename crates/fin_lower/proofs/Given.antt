@@ -71,7 +71,8 @@ module _ (y : Header) (n : List ℕ) (hs : List Header) (shapes : List (List ℕ
   functions_are : (s : Storage) (rest : List Storage) (b : Bool) → is_input y.kind ≡ b → (t : ℕ) → made_at (inputs_by_header (y ∷ hs) (s ∷ rest)) t ≡ made_at (functions_of s rest b) t
   functions_are s rest b e t = ap (λ (c : Bool). made_at (functions_of s rest c) t) e
 
-  by_kind : (k : ℕ) (rest : List Storage) → ((j : ℕ) (more : List Storage) → drop j inputs ≡ more → HaveFormats (inputs_among hs shapes) more → Begins hs shapes inputs j more) → (b : Bool) → is_input y.kind ≡ b →
+  by_kind : (k : ℕ) (rest : List Storage) → ((j : ℕ) (more : List Storage) → drop j inputs ≡ more → HaveFormats (inputs_among hs shapes) more → Begins hs shapes inputs j more)
+      → (b : Bool) → is_input y.kind ≡ b →
       drop k inputs ≡ rest → HaveFormats (if b then (y, n) ∷ inputs_among hs shapes else inputs_among hs shapes) rest → Begins (y ∷ hs) (n ∷ shapes) inputs k rest
   by_kind k [] others true b d f t x e = absurd f
   by_kind k (s ∷ rest) others true b d f zero x e =
@@ -89,7 +90,8 @@ module _ (y : Header) (n : List ℕ) (hs : List Header) (shapes : List (List ℕ
   by_kind k (s ∷ rest) others false b d f (suc t) x e =
       moved x (slice_index_or shapes t []) (is_input x.kind) (is_input x.kind) _ _ _ _ refl (functions_are s rest false b (suc t)) (tensors_are k false b (suc t)) (others k (s ∷ rest) d f t x e)
 
-begun_from : (hs : List Header) (shapes : List (List ℕ)) → AreShaped hs shapes → (inputs : List Storage) (k : ℕ) (rest : List Storage) → drop k inputs ≡ rest → HaveFormats (inputs_among hs shapes) rest → Begins hs shapes inputs k rest
+begun_from : (hs : List Header) (shapes : List (List ℕ)) → AreShaped hs shapes → (inputs : List Storage) (k : ℕ) (rest : List Storage) → drop k inputs ≡ rest
+    → HaveFormats (inputs_among hs shapes) rest → Begins hs shapes inputs k rest
 begun_from [] shapes a inputs k rest d f = λ t x e. cc
 begun_from (y ∷ hs) [] a inputs k rest d f = absurd a
 begun_from (y ∷ hs) (n ∷ shapes) a inputs k rest d f = by_kind y n hs shapes inputs k rest (begun_from hs shapes a.1 inputs) (is_input y.kind) refl d f
@@ -107,7 +109,8 @@ given_past (y ∷ hs) (s ∷ inputs) (suc t) e =
 
 module _ (c : Checked) (inputs : List Storage) (fits : FitHeaders c.program.headers c.dims) (given_fit : FitProgram c inputs) where
   -- where a run begins
-  begun_holds : (t : ℕ) (x : Header) → slice_get c.program.headers t ≡ Some x → IsBegun (is_input x.kind) x (slice_index_or c.dims.shapes t []) (made_at (setting_of c inputs).given t) (held (begun c inputs).tensors t)
+  begun_holds : (t : ℕ) (x : Header) → slice_get c.program.headers t ≡ Some x
+      → IsBegun (is_input x.kind) x (slice_index_or c.dims.shapes t []) (made_at (setting_of c inputs).given t) (held (begun c inputs).tensors t)
   begun_holds = begun_from c.program.headers c.dims.shapes fits.shapes inputs 0 inputs refl given_fit
 
   -- a tensor that is given is an input

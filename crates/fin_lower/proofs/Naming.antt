@@ -66,13 +66,15 @@ module _ (c : Checked) where
   abbrev pub Named : Stmt → Type 0
   Named x = (sc : Scope) (next : ℕ) → Placed c sc next → StmtFits c x sc next → is_named (layout_of c) (code_of_stmt (sides_in c) x next) ≡ true
 
-  pub all_are_named : (body : List Stmt) → AllOf Named body → (sc : Scope) (next : ℕ) → Placed c sc next → BodyFits c body sc next → list_all (is_named (layout_of c)) (code_of_all (sides_in c) next body) ≡ true
+  pub all_are_named : (body : List Stmt) → AllOf Named body → (sc : Scope) (next : ℕ) → Placed c sc next → BodyFits c body sc next
+      → list_all (is_named (layout_of c)) (code_of_all (sides_in c) next body) ≡ true
   all_are_named [] all sc next p f = refl
   all_are_named (x ∷ body) all sc next p f = one_more (layout_of c) (code_of_stmt (sides_in c) x next) (code_of_all (sides_in c) next body) (all.0 sc next p (first_fits c x body sc next f)) (all_are_named body all.1 sc next p (rest_fits c x body sc next f))
 
   pub block_named : (body : List Stmt) (line last : ℕ) → AllOf Named body → Named (s.Block body line last)
   block_named body line last all sc next p f =
-      ap (is_named (layout_of c)) (code_block (sides_in c) next body line last) ∙ named_seq (layout_of c) (code_of_all (sides_in c) next body) (all_are_named body all sc next p (block_fits c sc next body line last f))
+      ap (is_named (layout_of c)) (code_block (sides_in c) next body line last)
+      ∙ named_seq (layout_of c) (code_of_all (sides_in c) next body) (all_are_named body all sc next p (block_fits c sc next body line last f))
 
   pub loop_named : (var : ℕ) (range : Option (ℕ × ℕ)) (par : Bool) (body : List Stmt) (line last : ℕ) → AllOf Named body → Named (s.Loop var range par body line last)
   loop_named var range par body line last all sc next p f =
@@ -112,7 +114,8 @@ module _ (c : Checked) where
         let choice : Code = When v.value (Seq codes) in
         let choice_named : list_all (is_named l) (choice ∷ []) ≡ true = one_more l choice [] (named_when l v.value (Seq codes) known.1 inner) refl in
         let steps_named : list_all (is_named l) (prelude v ++ choice ∷ []) ≡ true = some_more l (prelude v) (choice ∷ []) known.0 choice_named in
-        ap (is_named l) (code_cond (sides_in c) next test body line last) ∙ named_seq l (charge_of 1 ∷ prelude v ++ choice ∷ []) (one_more l (charge_of 1) (prelude v ++ choice ∷ []) (charge_named l 1) steps_named)
+        ap (is_named l) (code_cond (sides_in c) next test body line last)
+        ∙ named_seq l (charge_of 1 ∷ prelude v ++ choice ∷ []) (one_more l (charge_of 1) (prelude v ++ choice ∷ []) (charge_named l 1) steps_named)
 
     pub bind_named : (var : ℕ) (value : Expr) (body : List Stmt) (line last : ℕ) → AllOf Named body → Named (s.Bind var value body line last)
     bind_named var value body line last all sc next p f =

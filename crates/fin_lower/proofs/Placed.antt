@@ -114,10 +114,12 @@ module _ (c : Checked) (sc : Scope) (next : ℕ) where
     room = subst (λ (n : ℕ). n ≤ (layout_of c).locals) (ap (λ (g : ℕ → ℕ). g next) (of_block (ℕ → ℕ) (reach_step (heads_in c)) body line last)) f.room;
   }
 
-  pub loop_bound : (var : ℕ) (range : Option (ℕ × ℕ)) (par : Bool) (body : List Stmt) (line last : ℕ) → StmtFits c (s.Loop var range par body line last) sc next → (var < variables_in c) × AllBelow (variables_in c) (bindings_of_all body)
+  pub loop_bound : (var : ℕ) (range : Option (ℕ × ℕ)) (par : Bool) (body : List Stmt) (line last : ℕ) → StmtFits c (s.Loop var range par body line last) sc next
+      → (var < variables_in c) × AllBelow (variables_in c) (bindings_of_all body)
   loop_bound var range par body line last f = subst (AllBelow (variables_in c)) (of_loop (List ℕ) bindings_step var range par body line last) f.bound
 
-  pub loop_fits : (var : ℕ) (range : Option (ℕ × ℕ)) (par : Bool) (body : List Stmt) (line last : ℕ) → StmtFits c (s.Loop var range par body line last) sc next → BodyFits c body (within_loop sc var) (next + 1)
+  pub loop_fits : (var : ℕ) (range : Option (ℕ × ℕ)) (par : Bool) (body : List Stmt) (line last : ℕ) → StmtFits c (s.Loop var range par body line last) sc next
+      → BodyFits c body (within_loop sc var) (next + 1)
   loop_fits var range par body line last f = record {
     named = sym (ap (λ (g : Scope → Bool). g sc) (of_loop (Scope → Bool) stmt_step var range par body line last)) ∙ f.named;
     bound = (loop_bound var range par body line last f).1;
@@ -127,7 +129,8 @@ module _ (c : Checked) (sc : Scope) (next : ℕ) where
   cond_named : (test : Expr) (body : List Stmt) (line last : ℕ) → StmtFits c (s.Cond test body line last) sc next → (is_named_expr test sc && are_named body sc) ≡ true
   cond_named test body line last f = sym (ap (λ (g : Scope → Bool). g sc) (of_cond (Scope → Bool) stmt_step test body line last)) ∙ f.named
 
-  cond_room : (test : Expr) (body : List Stmt) (line last : ℕ) → StmtFits c (s.Cond test body line last) sc next → max (end_of (value_code (heads_in c) test next)) (reach_of_all (heads_in c) next body) ≤ (layout_of c).locals
+  cond_room : (test : Expr) (body : List Stmt) (line last : ℕ) → StmtFits c (s.Cond test body line last) sc next
+      → max (end_of (value_code (heads_in c) test next)) (reach_of_all (heads_in c) next body) ≤ (layout_of c).locals
   cond_room test body line last f = subst (λ (n : ℕ). n ≤ (layout_of c).locals) (ap (λ (g : ℕ → ℕ). g next) (of_cond (ℕ → ℕ) (reach_step (heads_in c)) test body line last)) f.room
 
   pub cond_fits : (test : Expr) (body : List Stmt) (line last : ℕ) → StmtFits c (s.Cond test body line last) sc next → BodyFits c body sc next
@@ -143,13 +146,16 @@ module _ (c : Checked) (sc : Scope) (next : ℕ) where
   pub test_room : (test : Expr) (body : List Stmt) (line last : ℕ) → StmtFits c (s.Cond test body line last) sc next → end_of (value_code (heads_in c) test next) ≤ (layout_of c).locals
   test_room test body line last f = let both = cond_room test body line last f in omega (arith, both)
 
-  bind_named : (var : ℕ) (value : Expr) (body : List Stmt) (line last : ℕ) → StmtFits c (s.Bind var value body line last) sc next → (is_named_expr value sc && are_named body (within_let sc var)) ≡ true
+  bind_named : (var : ℕ) (value : Expr) (body : List Stmt) (line last : ℕ) → StmtFits c (s.Bind var value body line last) sc next
+      → (is_named_expr value sc && are_named body (within_let sc var)) ≡ true
   bind_named var value body line last f = sym (ap (λ (g : Scope → Bool). g sc) (of_bind (Scope → Bool) stmt_step var value body line last)) ∙ f.named
 
-  bind_room : (var : ℕ) (value : Expr) (body : List Stmt) (line last : ℕ) → StmtFits c (s.Bind var value body line last) sc next → max (end_of (value_code (heads_in c) value (next + 1))) (reach_of_all (heads_in c) (next + 1) body) ≤ (layout_of c).locals
+  bind_room : (var : ℕ) (value : Expr) (body : List Stmt) (line last : ℕ) → StmtFits c (s.Bind var value body line last) sc next
+      → max (end_of (value_code (heads_in c) value (next + 1))) (reach_of_all (heads_in c) (next + 1) body) ≤ (layout_of c).locals
   bind_room var value body line last f = subst (λ (n : ℕ). n ≤ (layout_of c).locals) (ap (λ (g : ℕ → ℕ). g next) (of_bind (ℕ → ℕ) (reach_step (heads_in c)) var value body line last)) f.room
 
-  pub bind_bound : (var : ℕ) (value : Expr) (body : List Stmt) (line last : ℕ) → StmtFits c (s.Bind var value body line last) sc next → (var < variables_in c) × AllBelow (variables_in c) (bindings_of_all body)
+  pub bind_bound : (var : ℕ) (value : Expr) (body : List Stmt) (line last : ℕ) → StmtFits c (s.Bind var value body line last) sc next
+      → (var < variables_in c) × AllBelow (variables_in c) (bindings_of_all body)
   bind_bound var value body line last f = subst (AllBelow (variables_in c)) (of_bind (List ℕ) bindings_step var value body line last) f.bound
 
   pub bind_fits : (var : ℕ) (value : Expr) (body : List Stmt) (line last : ℕ) → StmtFits c (s.Bind var value body line last) sc next → BodyFits c body (within_let sc var) (next + 1)
@@ -162,7 +168,8 @@ module _ (c : Checked) (sc : Scope) (next : ℕ) where
   pub value_named : (var : ℕ) (value : Expr) (body : List Stmt) (line last : ℕ) → StmtFits c (s.Bind var value body line last) sc next → is_named_expr value sc ≡ true
   value_named var value body line last f = left (is_named_expr value sc) (are_named body (within_let sc var)) (bind_named var value body line last f)
 
-  pub value_room : (var : ℕ) (value : Expr) (body : List Stmt) (line last : ℕ) → StmtFits c (s.Bind var value body line last) sc next → end_of (value_code (heads_in c) value (next + 1)) ≤ (layout_of c).locals
+  pub value_room : (var : ℕ) (value : Expr) (body : List Stmt) (line last : ℕ) → StmtFits c (s.Bind var value body line last) sc next
+      → end_of (value_code (heads_in c) value (next + 1)) ≤ (layout_of c).locals
   value_room var value body line last f = let both = bind_room var value body line last f in omega (arith, both)
 
   pub declared_named : (tensor : ℕ) (value : ℤ) (line : ℕ) → StmtFits c (s.Declare tensor value line) sc next → is_declaration sc tensor value ≡ true
@@ -174,7 +181,8 @@ module _ (c : Checked) (sc : Scope) (next : ℕ) where
   pub thawed_named : (tensor line : ℕ) → StmtFits c (s.Thaw tensor line) sc next → is_tensor sc tensor ≡ true
   thawed_named tensor line f = sym (ap (λ (g : Scope → Bool). g sc) (of_thaw (Scope → Bool) stmt_step tensor line)) ∙ f.named
 
-  update_named : (tensor : ℕ) (at : List Index) (by : Reduce) (value : Expr) (line : ℕ) → StmtFits c (s.Update tensor at by value line) sc next → (is_access sc tensor at && is_named_expr value sc) ≡ true
+  update_named : (tensor : ℕ) (at : List Index) (by : Reduce) (value : Expr) (line : ℕ) → StmtFits c (s.Update tensor at by value line) sc next
+      → (is_access sc tensor at && is_named_expr value sc) ≡ true
   update_named tensor at by value line f = sym (ap (λ (g : Scope → Bool). g sc) (of_update (Scope → Bool) stmt_step tensor at by value line)) ∙ f.named
 
   pub access_named : (tensor : ℕ) (at : List Index) (by : Reduce) (value : Expr) (line : ℕ) → StmtFits c (s.Update tensor at by value line) sc next → is_access sc tensor at ≡ true
@@ -183,7 +191,8 @@ module _ (c : Checked) (sc : Scope) (next : ℕ) where
   pub updating_named : (tensor : ℕ) (at : List Index) (by : Reduce) (value : Expr) (line : ℕ) → StmtFits c (s.Update tensor at by value line) sc next → is_named_expr value sc ≡ true
   updating_named tensor at by value line f = right (is_access sc tensor at) (is_named_expr value sc) (update_named tensor at by value line f)
 
-  pub updating_room : (tensor : ℕ) (at : List Index) (by : Reduce) (value : Expr) (line : ℕ) → StmtFits c (s.Update tensor at by value line) sc next → end_of (value_code (heads_in c) value next) ≤ (layout_of c).locals
+  pub updating_room : (tensor : ℕ) (at : List Index) (by : Reduce) (value : Expr) (line : ℕ) → StmtFits c (s.Update tensor at by value line) sc next
+      → end_of (value_code (heads_in c) value next) ≤ (layout_of c).locals
   updating_room tensor at by value line f = subst (λ (n : ℕ). n ≤ (layout_of c).locals) (ap (λ (g : ℕ → ℕ). g next) (of_update (ℕ → ℕ) (reach_step (heads_in c)) tensor at by value line)) f.room
 
 -- ---- the code of each kind
@@ -192,13 +201,15 @@ module _ (d : Sides) (next : ℕ) where
   pub code_block : (body : List Stmt) (line last : ℕ) → code_of_stmt d (s.Block body line last) next ≡ Seq (code_of_all d next body)
   code_block body line last = ap (λ (f : Coded). f next) (of_block Coded (lower_step d) body line last)
 
-  pub code_loop : (var : ℕ) (range : Option (ℕ × ℕ)) (par : Bool) (body : List Stmt) (line last : ℕ) → code_of_stmt d (s.Loop var range par body line last) next ≡ loop_code (range_at d var) var next (code_of_all d (next + 1) body)
+  pub code_loop : (var : ℕ) (range : Option (ℕ × ℕ)) (par : Bool) (body : List Stmt) (line last : ℕ)
+      → code_of_stmt d (s.Loop var range par body line last) next ≡ loop_code (range_at d var) var next (code_of_all d (next + 1) body)
   code_loop var range par body line last = ap (λ (f : Coded). f next) (of_loop Coded (lower_step d) var range par body line last)
 
   pub code_cond : (test : Expr) (body : List Stmt) (line last : ℕ) → code_of_stmt d (s.Cond test body line last) next ≡ cond_code (value_code d.heads test next) (code_of_all d next body)
   code_cond test body line last = ap (λ (f : Coded). f next) (of_cond Coded (lower_step d) test body line last)
 
-  pub code_bind : (var : ℕ) (value : Expr) (body : List Stmt) (line last : ℕ) → code_of_stmt d (s.Bind var value body line last) next ≡ bind_code var next (value_code d.heads value (next + 1)) (code_of_all d (next + 1) body)
+  pub code_bind : (var : ℕ) (value : Expr) (body : List Stmt) (line last : ℕ)
+      → code_of_stmt d (s.Bind var value body line last) next ≡ bind_code var next (value_code d.heads value (next + 1)) (code_of_all d (next + 1) body)
   code_bind var value body line last = ap (λ (f : Coded). f next) (of_bind Coded (lower_step d) var value body line last)
 
   pub code_declare : (tensor : ℕ) (value : ℤ) (line : ℕ) → code_of_stmt d (s.Declare tensor value line) next ≡ declare_code d.heads tensor
@@ -210,5 +221,6 @@ module _ (d : Sides) (next : ℕ) where
   pub code_thaw : (tensor line : ℕ) → code_of_stmt d (s.Thaw tensor line) next ≡ thaw_code d.heads tensor
   code_thaw tensor line = ap (λ (f : Coded). f next) (of_thaw Coded (lower_step d) tensor line)
 
-  pub code_update : (tensor : ℕ) (at : List Index) (by : Reduce) (value : Expr) (line : ℕ) → code_of_stmt d (s.Update tensor at by value line) next ≡ update_code d.heads tensor at by (value_code d.heads value next)
+  pub code_update : (tensor : ℕ) (at : List Index) (by : Reduce) (value : Expr) (line : ℕ)
+      → code_of_stmt d (s.Update tensor at by value line) next ≡ update_code d.heads tensor at by (value_code d.heads value next)
   code_update tensor at by value line = ap (λ (f : Coded). f next) (of_update Coded (lower_step d) tensor at by value line)

@@ -81,7 +81,8 @@ module _ (c : Checked) (inputs : List Storage) (fits : FitHeaders c.program.head
   started_fits : (t : ℕ) → StageFits w t (Built (started (format_at w t) (shape_at w t)))
   started_fits t = (refl, record { shape = refl; fill = same_fill w (slice_get c.program.headers t); cells = filled_has_cells (shape_at w t) (format_at w t).fill })
 
-  pub declare_goes : (pins : List ℤ) (r : Run) (m : Machine) → Live (start_of c inputs) pins r m → (t : ℕ) → t < length c.program.headers → regular (declare w t r) ≡ true → Related (start_of c inputs) pins (declare w t r) (meaning (layout_of c) (declare_code (heads_in c) t) m)
+  pub declare_goes : (pins : List ℤ) (r : Run) (m : Machine) → Live (start_of c inputs) pins r m → (t : ℕ) → t < length c.program.headers → regular (declare w t r) ≡ true
+      → Related (start_of c inputs) pins (declare w t r) (meaning (layout_of c) (declare_code (heads_in c) t) m)
   declare_goes pins r m live t lt reg =
       let work : ℕ = work_of_declaration (format_at w t).levels (shape_at w t) in
       let b : Building = started (format_at w t) (shape_at w t) in
@@ -152,7 +153,8 @@ module _ (c : Checked) (inputs : List Storage) (fits : FitHeaders c.program.head
             let ends : meaning (layout_of c) (freeze_code (heads_in c) t) m ≡ cut_off m =
             meaning_seq (layout_of c) (Freeze t ∷ charge_of 1 ∷ Charge (count_of (heads_in c) t) ∷ []) m
             ∙ ap (λ (n : Machine). meaning (layout_of c) (Charge (count_of (heads_in c) t)) (meaning (layout_of c) (charge_of 1) n)) (frozen true large)
-            ∙ ap (meaning (layout_of c) (Charge (count_of (heads_in c) t))) (cut_pays (layout_of c) (Num (pos 1)) (cut_off m) refl) ∙ cut_pays (layout_of c) (count_of (heads_in c) t) (cut_off m) refl in
+            ∙ ap (meaning (layout_of c) (Charge (count_of (heads_in c) t))) (cut_pays (layout_of c) (Num (pos 1)) (cut_off m) refl)
+            ∙ cut_pays (layout_of c) (count_of (heads_in c) t) (cut_off m) refl in
             let over : Over (freeze_at t (Built b) r) (cut_off m) = record { cut = refl; regular = live.regular; over = omega arith; most = omega (arith, live.charges, storing_large b large) } in
             inr (subst (Over (freeze_at t (Built b) r)) (sym ends) over)
         by_size false few =
@@ -165,7 +167,8 @@ module _ (c : Checked) (inputs : List Storage) (fits : FitHeaders c.program.head
             let ends : meaning (layout_of c) (freeze_code (heads_in c) t) m ≡ paid (1 + size) n =
             meaning_seq (layout_of c) (Freeze t ∷ charge_of 1 ∷ Charge (count_of (heads_in c) t) ∷ []) m
             ∙ ap (λ (x : Machine). meaning (layout_of c) (Charge (count_of (heads_in c) t)) (meaning (layout_of c) (charge_of 1) x)) (frozen false few)
-            ∙ ap (meaning (layout_of c) (Charge (count_of (heads_in c) t))) (number_pays (layout_of c) 1 n live.cut) ∙ charge_pays (layout_of c) (count_of (heads_in c) t) size (paid 1 n) live.cut value
+            ∙ ap (meaning (layout_of c) (Charge (count_of (heads_in c) t))) (number_pays (layout_of c) 1 n live.cut)
+            ∙ charge_pays (layout_of c) (count_of (heads_in c) t) size (paid 1 n) live.cut value
             ∙ paid_twice 1 size n in
             let work : worked (1 + size) stage ≡ freeze_at t (Built b) r = ap (λ (k : ℕ). worked k stage) (sym (storing_small b few)) in
             inl (subst (Live (start_of c inputs) pins (freeze_at t (Built b) r)) (sym ends) (subst (λ (x : Run). Live (start_of c inputs) pins x (paid (1 + size) n)) work (worked_live (start_of c inputs) pins stage n goes (1 + size))))
@@ -190,7 +193,8 @@ module _ (c : Checked) (inputs : List Storage) (fits : FitHeaders c.program.head
           let function : stood_for (canon b) ≡ f = ap (λ (z : ℤ). tabulated f.shape z (value_from f.shape (canon b).parts (canon b).val z 0)) fill ∙ listed_is format.levels f s.runs s.long own.cells in
           ap (λ (x : Format). unchanged x (stood_for (canon b))) bare ∙ ap (unchanged format) function
 
-      thaw_frozen : (format : Format) (f : TensorFunction) → stage_at r.stages t ≡ Frozen format f → is_made w t ≡ true → Related (start_of c inputs) pins (thaw_at t (Frozen format f) r) (meaning (layout_of c) (thaw_code (heads_in c) t) m)
+      thaw_frozen : (format : Format) (f : TensorFunction) → stage_at r.stages t ≡ Frozen format f → is_made w t ≡ true
+          → Related (start_of c inputs) pins (thaw_at t (Frozen format f) r) (meaning (layout_of c) (thaw_code (heads_in c) t) m)
       thaw_frozen format f e made =
           let b : Building = unchanged format f in
           let stand : Stand (Frozen format f) (held m.tensors t) = subst (λ (x : Stage). Stand x (held m.tensors t)) e (live.each t) in
@@ -218,8 +222,10 @@ module _ (c : Checked) (inputs : List Storage) (fits : FitHeaders c.program.head
       thaw_goes reg =
           let made : is_made w t ≡ true = made_by (is_made w t) (thaw_at t (stage_at r.stages t) r) r reg in
           let run : thaw w t r ≡ thaw_at t (stage_at r.stages t) r = ap (λ (x : Bool). if x then thaw_at t (stage_at r.stages t) r else unalive r) made in
-          subst (λ (x : Run). Related (start_of c inputs) pins x (meaning (layout_of c) (thaw_code (heads_in c) t) m)) (sym run) (by_stage (stage_at r.stages t) refl made (ap regular (sym run) ∙ reg)) where
-            by_stage : (x : Stage) → stage_at r.stages t ≡ x → is_made w t ≡ true → regular (thaw_at t x r) ≡ true → Related (start_of c inputs) pins (thaw_at t x r) (meaning (layout_of c) (thaw_code (heads_in c) t) m)
+          subst (λ (x : Run). Related (start_of c inputs) pins x (meaning (layout_of c) (thaw_code (heads_in c) t) m)) (sym run)
+          (by_stage (stage_at r.stages t) refl made (ap regular (sym run) ∙ reg)) where
+            by_stage : (x : Stage) → stage_at r.stages t ≡ x → is_made w t ≡ true → regular (thaw_at t x r) ≡ true
+                → Related (start_of c inputs) pins (thaw_at t x r) (meaning (layout_of c) (thaw_code (heads_in c) t) m)
             by_stage Absent e made g = cc
             by_stage (Built b) e made g = cc
             by_stage (Frozen format f) e made g = thaw_frozen format f e made

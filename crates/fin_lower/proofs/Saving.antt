@@ -40,10 +40,12 @@ module _ (c : Checked) (inputs : List Storage) where
   moves : (to source : ℕ) (m : Machine) → meaning (layout_of c) (move_code to source) m ≡ assign to (at m.locals source) m
   moves to source m = meaning_assign (layout_of c) to (Local source) m ∙ ap (λ (v : ℤ). assign to v m) (value_local (seen m) m.locals source)
 
-  pub saved : (ps : List ℤ) (var : ℕ) (r : Run) (m : Machine) → var < length ps → length ps < (layout_of c).locals → Live (start_of c inputs) ps r m → Live (start_of c inputs) (with_saved ps var) r (meaning (layout_of c) (move_code (length ps) var) m)
+  pub saved : (ps : List ℤ) (var : ℕ) (r : Run) (m : Machine) → var < length ps → length ps < (layout_of c).locals → Live (start_of c inputs) ps r m
+      → Live (start_of c inputs) (with_saved ps var) r (meaning (layout_of c) (move_code (length ps) var) m)
   saved ps var r m lt room l = subst (Live (start_of c inputs) (with_saved ps var) r) (sym (moves (length ps) var m ∙ ap (λ (v : ℤ). assign (length ps) v m) (l.pinned var lt))) (live_more (start_of c inputs) ps r m (at ps var) room l)
 
-  restored_live : (ps words : List ℤ) (var : ℕ) (r : Run) (m : Machine) → var < length ps → SameBut var words (with_saved ps var) → length words ≤ (layout_of c).locals → Live (start_of c inputs) words r m
+  restored_live : (ps words : List ℤ) (var : ℕ) (r : Run) (m : Machine) → var < length ps → SameBut var words (with_saved ps var) → length words ≤ (layout_of c).locals
+      → Live (start_of c inputs) words r m
       → Live (start_of c inputs) ps r (meaning (layout_of c) (move_code var (length ps)) m)
   restored_live ps words var r m lt s room l =
       let long : length words ≡ length ps + 1 = s.long ∙ saved_length ps var in
@@ -57,7 +59,8 @@ module _ (c : Checked) (inputs : List Storage) where
       subst (Live (start_of c inputs) ps r) (sym (moves var (length ps) m ∙ ap (λ (v : ℤ). assign var v m) value))
       (live_less (start_of c inputs) (slice_set words var (at ps var)) ps r (assign var (at ps var) m) (omega (arith, length-set words var (at ps var), long)) agree put)
 
-  pub restored : (ps words : List ℤ) (var : ℕ) (r : Run) (m : Machine) → var < length ps → SameBut var words (with_saved ps var) → length words ≤ (layout_of c).locals → Related (start_of c inputs) words r m
+  pub restored : (ps words : List ℤ) (var : ℕ) (r : Run) (m : Machine) → var < length ps → SameBut var words (with_saved ps var) → length words ≤ (layout_of c).locals
+      → Related (start_of c inputs) words r m
       → Related (start_of c inputs) ps r (meaning (layout_of c) (move_code var (length ps)) m)
   restored ps words var r m lt s room rel =
       goes_on (start_of c inputs) words ps r r m (meaning (layout_of c) (move_code var (length ps))) (onward_still r) (stills (layout_of c) (move_code var (length ps))) rel (λ l. inl (restored_live ps words var r m lt s room l))

@@ -56,13 +56,15 @@ pub few_of : (b : Building) → is_large b ≡ false → is_allowed b.format.lev
 few_of b e = not-false (is_allowed b.format.levels b.function.fill b.function.shape (value_at b.function ∷ [])) e
 
 -- a canonical storage that isn't too large is valid
-pub canon_valid : (b : Building) → RunsStandLast b.format.levels → length b.function.shape ≡ length b.format.levels → AreSmall b.function.shape → is_large b ≡ false → IsStored 1 b.format.levels b.function.shape (canon b).parts (canon b).val
+pub canon_valid : (b : Building) → RunsStandLast b.format.levels → length b.function.shape ≡ length b.format.levels → AreSmall b.function.shape → is_large b ≡ false
+    → IsStored 1 b.format.levels b.function.shape (canon b).parts (canon b).val
 canon_valid b runs long small few =
     slices_are_valid b.format.levels b.function.fill b.function.shape (value_at b.function ∷ []) (placed_over b.format.levels b.function.shape runs long) small
     (allowed_by b.format.levels b.function.fill b.function.shape (value_at b.function ∷ []) (few_of b few))
 
 -- what was frozen
-frozen_seen : (ts : ℕ → Tensor) (t : ℕ) (b : Building) → ts t ≡ stored (canon b) → RunsStandLast b.format.levels → length b.function.shape ≡ length b.format.levels → AreSmall b.function.shape → is_large b ≡ false →
+frozen_seen : (ts : ℕ → Tensor) (t : ℕ) (b : Building) → ts t ≡ stored (canon b) → RunsStandLast b.format.levels → length b.function.shape ≡ length b.format.levels
+    → AreSmall b.function.shape → is_large b ≡ false →
     Sees ts t b.format.levels b.function.shape b.function.fill b.function
 frozen_seen ts t b e runs long small few = record {
   storage = canon b;
@@ -76,7 +78,8 @@ frozen_seen ts t b e runs long small few = record {
 
 -- ---- all tensors
 
-sees_as : (ts : ℕ → Tensor) (t : ℕ) (levels levels' : List Level) (shape shape' : List ℕ) (fill fill' : ℤ) (f f' : TensorFunction) → levels ≡ levels' → shape ≡ shape' → fill ≡ fill' → f ≡ f' → Sees ts t levels shape fill f → Sees ts t levels' shape' fill' f'
+sees_as : (ts : ℕ → Tensor) (t : ℕ) (levels levels' : List Level) (shape shape' : List ℕ) (fill fill' : ℤ) (f f' : TensorFunction) → levels ≡ levels' → shape ≡ shape' → fill ≡ fill'
+    → f ≡ f' → Sees ts t levels shape fill f → Sees ts t levels' shape' fill' f'
 sees_as ts t levels levels' shape shape' fill fill' f f' e0 e1 e2 e3 s =
     subst (λ (x : List Level). Sees ts t x shape' fill' f') e0
     (subst (λ (x : List ℕ). Sees ts t levels x fill' f') e1
@@ -100,7 +103,8 @@ module _ (c : Checked) (inputs : List Storage) (fits : FitHeaders c.program.head
   pub stage_there : (t : ℕ) (x : Stage) → stage_at r.stages t ≡ x → (x ≡ Absent → ⊥) → t < length c.program.headers
   stage_there t x e n = ⊎_elim (λ (l : t < length c.program.headers). l) (λ (l : length c.program.headers ≤ t). absurd (n (sym e ∙ get_or_past r.stages t Absent (omega (arith, l, live.stages))))) (cases_lt t (length c.program.headers))
 
-  frozen_sees : (t : ℕ) (format : Format) (f : TensorFunction) → stage_at r.stages t ≡ Frozen format f → Sees (seen m) t (format_of (heads_in c) t).levels (shape_of (heads_in c) t) (format_of (heads_in c) t).fill f
+  frozen_sees : (t : ℕ) (format : Format) (f : TensorFunction) → stage_at r.stages t ≡ Frozen format f
+      → Sees (seen m) t (format_of (heads_in c) t).levels (shape_of (heads_in c) t) (format_of (heads_in c) t).fill f
   frozen_sees t format f e =
       let lt : t < length c.program.headers = stage_there t (Frozen format f) e (λ h. cc) in
       let can = builds_there c.program.headers c.dims.shapes fits.shapes t lt in
@@ -116,7 +120,8 @@ module _ (c : Checked) (inputs : List Storage) (fits : FitHeaders c.program.head
 
   pub all_seen : SeesAll (heads_in c) (seen m) (readable (setting_of c inputs).given r.stages)
   all_seen t f e = by_given (made_at (setting_of c inputs).given t) refl e where
-    by_given : (o : Option TensorFunction) → made_at (setting_of c inputs).given t ≡ o → option_or o (frozen_in (stage_at r.stages t)) ≡ Some f → Sees (seen m) t (format_of (heads_in c) t).levels (shape_of (heads_in c) t) (format_of (heads_in c) t).fill f
+    by_given : (o : Option TensorFunction) → made_at (setting_of c inputs).given t ≡ o → option_or o (frozen_in (stage_at r.stages t)) ≡ Some f
+        → Sees (seen m) t (format_of (heads_in c) t).levels (shape_of (heads_in c) t) (format_of (heads_in c) t).fill f
     by_given None n h = let q = frozen_by (stage_at r.stages t) f h in frozen_sees t q.0 f q.1
     by_given (Some g) n h =
         let q = given_is_input c inputs fits given_fit t g n in

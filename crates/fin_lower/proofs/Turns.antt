@@ -18,7 +18,9 @@ use Rattle.fin_stage.proofs.Trailing.{regular_before}
 
 module _ (c : Checked) (inputs : List Storage) where
   counted : (ps : List ℤ) (r : Run) (m : Machine) → Live (start_of c inputs) ps r m → Live (start_of c inputs) ps r (count_turn m)
-  counted ps r m l = subst (Live (start_of c inputs) ps r) (sym (alive m (record m { turns = m.turns + 1 }) l.cut)) (live_as (start_of c inputs) ps ps m.locals r.work m.charges (m.turns + 1) r m l.charges refl l.pinned l)
+  counted ps r m l =
+      subst (Live (start_of c inputs) ps r) (sym (alive m (record m { turns = m.turns + 1 }) l.cut))
+      (live_as (start_of c inputs) ps ps m.locals r.work m.charges (m.turns + 1) r m l.charges refl l.pinned l)
 
   count_still : Stills count_turn
   count_still m e = ap (λ (b : Bool). if b then m else record m { turns = m.turns + 1 }) e

@@ -72,7 +72,8 @@ module _ (c : Checked) (inputs : List Storage) (fits : FitHeaders c.program.head
         inl (subst (Live (start_of c inputs) pins (worked 1 r)) (sym ends) (worked_live (start_of c inputs) pins r m live 1))
 
     -- one value is changed
-    put_one : (cs : List ℕ) → coordinates b.function.shape zs ≡ Some cs → regular (put_at t b (Some cs) by v r) ≡ true → Related (start_of c inputs) pins (worked 1 (put_at t b (Some cs) by v r)) (meaning (layout_of c) (put_code (shape_at w t) t xs by e) m)
+    put_one : (cs : List ℕ) → coordinates b.function.shape zs ≡ Some cs → regular (put_at t b (Some cs) by v r) ≡ true
+        → Related (start_of c inputs) pins (worked 1 (put_at t b (Some cs) by v r)) (meaning (layout_of c) (put_code (shape_at w t) t xs by e) m)
     put_one cs h reg =
         let new : Building = updated b cs (λ old. apply by old v) in
         let stage : Run = with_stage t (Built new) r in
@@ -86,7 +87,9 @@ module _ (c : Checked) (inputs : List Storage) (fits : FitHeaders c.program.head
         ∙ ap (λ (x : Tensor). changed_by (record { tensor = t; at = cs; by = by; value = v }) x m) own
         ∙ ap (λ (x : Bool). if x && follows b cs then n else refused m) box ∙ ap (λ (x : Bool). if x then n else refused m) order in
         let when : meaning (layout_of c) (When (in_box (shape_at w t) xs) (Update t xs by e)) m ≡ n =
-        meaning_when (layout_of c) (in_box (shape_at w t) xs) (Update t xs by e) m ∙ ap (λ (z : ℤ). if is_off z then m else meaning (layout_of c) (Update t xs by e) m) (tested (Some cs) h) ∙ updates in
+        meaning_when (layout_of c) (in_box (shape_at w t) xs) (Update t xs by e) m
+        ∙ ap (λ (z : ℤ). if is_off z then m else meaning (layout_of c) (Update t xs by e) m) (tested (Some cs) h)
+        ∙ updates in
         let ends : meaning (layout_of c) (put_code (shape_at w t) t xs by e) m ≡ paid 1 n =
         meaning_seq (layout_of c) (When (in_box (shape_at w t) xs) (Update t xs by e) ∷ charge_of 1 ∷ []) m ∙ ap (meaning (layout_of c) (charge_of 1)) when ∙ number_pays (layout_of c) 1 n live.cut in
         let f : FunctionFits w t b.function = fit.1 in
@@ -94,9 +97,11 @@ module _ (c : Checked) (inputs : List Storage) (fits : FitHeaders c.program.head
         let lt : t < _ = stage_there c inputs fits given_fit pins r m live t (Built b) is (λ x. cc) in
         let goes : Live (start_of c inputs) pins stage n = changed_live (start_of c inputs) pins r m live t (Built new) (building new) lt made refl built in
         let run : worked 1 stage ≡ worked 1 (put_at t b (Some cs) by v r) = ap (λ (x : Bool). worked 1 (if x then stage else unordered r)) (sym order) in
-        inl (subst (Live (start_of c inputs) pins (worked 1 (put_at t b (Some cs) by v r))) (sym ends) (subst (λ (x : Run). Live (start_of c inputs) pins x (paid 1 n)) run (worked_live (start_of c inputs) pins stage n goes 1)))
+        inl (subst (Live (start_of c inputs) pins (worked 1 (put_at t b (Some cs) by v r))) (sym ends)
+        (subst (λ (x : Run). Live (start_of c inputs) pins x (paid 1 n)) run (worked_live (start_of c inputs) pins stage n goes 1)))
 
-    put_goes : (o : Option (List ℕ)) → coordinates b.function.shape zs ≡ o → regular (put_at t b o by v r) ≡ true → Related (start_of c inputs) pins (worked 1 (put_at t b o by v r)) (meaning (layout_of c) (put_code (shape_at w t) t xs by e) m)
+    put_goes : (o : Option (List ℕ)) → coordinates b.function.shape zs ≡ o → regular (put_at t b o by v r) ≡ true
+        → Related (start_of c inputs) pins (worked 1 (put_at t b o by v r)) (meaning (layout_of c) (put_code (shape_at w t) t xs by e) m)
     put_goes None h reg = put_nothing h
     put_goes (Some cs) h reg = put_one cs h reg
 
@@ -105,8 +110,10 @@ module _ (c : Checked) (inputs : List Storage) (fits : FitHeaders c.program.head
   update_goes xs zs at by e v value reg =
       let made : is_made w t ≡ true = made_by (is_made w t) (update_at t (stage_at r.stages t) zs by v r) r reg in
       let run : update w t zs by v r ≡ worked 1 (update_at t (stage_at r.stages t) zs by v r) = ap (λ (x : Bool). worked 1 (if x then update_at t (stage_at r.stages t) zs by v r else unalive r)) made in
-      subst (λ (x : Run). Related (start_of c inputs) pins x (meaning (layout_of c) (put_code (shape_at w t) t xs by e) m)) (sym run) (by_stage (stage_at r.stages t) refl made (ap regular (sym run) ∙ reg)) where
-        by_stage : (x : Stage) → stage_at r.stages t ≡ x → is_made w t ≡ true → regular (update_at t x zs by v r) ≡ true → Related (start_of c inputs) pins (worked 1 (update_at t x zs by v r)) (meaning (layout_of c) (put_code (shape_at w t) t xs by e) m)
+      subst (λ (x : Run). Related (start_of c inputs) pins x (meaning (layout_of c) (put_code (shape_at w t) t xs by e) m)) (sym run)
+      (by_stage (stage_at r.stages t) refl made (ap regular (sym run) ∙ reg)) where
+        by_stage : (x : Stage) → stage_at r.stages t ≡ x → is_made w t ≡ true → regular (update_at t x zs by v r) ≡ true
+            → Related (start_of c inputs) pins (worked 1 (update_at t x zs by v r)) (meaning (layout_of c) (put_code (shape_at w t) t xs by e) m)
         by_stage Absent h made g = cc
         by_stage (Built b) h made g = put_goes xs zs at by e v value b h made (coordinates b.function.shape zs) refl g
         by_stage (Frozen format f) h made g = cc

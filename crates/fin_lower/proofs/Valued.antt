@@ -53,7 +53,8 @@ pub record Asked (w : Setting) (e : Expr) (vars : Numbers) (after : ℤ → Run 
   pub small : has_small_indices e vars ≡ true
   pub is : with_value w e vars after r ≡ after (value_of e vars (tensors_of w r)) r
 
-pub asked : (w : Setting) (e : Expr) (vars : Numbers) (after : ℤ → Run → Run) (r : Run) → ((v : ℤ) (n : Run) → Onward n (after v n)) → regular (with_value w e vars after r) ≡ true → Asked w e vars after r
+pub asked : (w : Setting) (e : Expr) (vars : Numbers) (after : ℤ → Run → Run) (r : Run) → ((v : ℤ) (n : Run) → Onward n (after v n)) → regular (with_value w e vars after r) ≡ true
+    → Asked w e vars after r
 asked w e vars after r on g =
     let v : ℤ = value_of e vars (tensors_of w r) in
     let can : Bool = can_read e (tensors_of w r) in
