@@ -1,12 +1,12 @@
 -- What two evaluations have in common part by part, they have in common as wholes.
-use Rattle.std.proofs.Common.{◌≡◌, ℕ, zero, suc, ◌+◌, ◌-◌, ◌≤◌, ◌<◌, arith, ℤ, pos, Bool, true, false, ◌||◌, List, [], ◌∷◌, map, if◌then◌else◌, refl, sym, ap, ◌∙◌, subst}
+use Rattle.std.proofs.Common.{◌≡◌, ℕ, zero, suc, ◌+◌, ◌-◌, ◌≤◌, ◌<◌, arith, ℤ, pos, Bool, true, false, ◌||◌, List, [], ◌∷◌, if◌then◌else◌, refl, ap, ◌∙◌, subst}
 use Rattle.std.specs.Prelude.{slice_set}
 use Rattle.std.specs.Ordering.{int_eq}
 use Rattle.fin_ast.specs.declared.tree.Expr.{Expr}
 use Rattle.fin_ast.specs.declared.tree.Stmt.{Stmt, map-Stmt, fold-roll-Stmt}
 use Rattle.fin_ast.specs.declared.tree.Stmt.TheOpen.{Stmt-F}
 use Rattle.fin_ast.specs.Value.{Numbers, number}
-use Rattle.fin_ast.specs.Actions.{Action, Leaf, Declare, Freeze, Thaw, Update, Parts, in_turn, braced, repeated, where_holds, act_step, act, act_all}
+use Rattle.fin_ast.specs.Actions.{Action, Leaf, Declare, Freeze, Thaw, Update, Parts, braced, repeated, where_holds, act_step, act, act_all}
 use Rattle.fin_ast.proofs.Induction.{AllOf, Held, bare, plain, all_of, each, by_nodes, by_three}
 use Rattle.fin_ast.proofs.Leaves.{part_step, has_part, have_part, neither, leaf_step, has_leaf, have_leaf}
 

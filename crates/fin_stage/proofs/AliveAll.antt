@@ -1,5 +1,5 @@
 -- The stages agree with the modes along an accepted program, statement by statement.
-use Rattle.std.proofs.Common.{◌≡◌, ◌<◌, ◌+◌, ◌-◌, ℕ, zero, suc, ℤ, pos, Bool, true, false, ◌||◌, List, [], ◌∷◌, map, Option, Some, None, if◌then◌else◌, refl, sym, ap, ◌∙◌, subst, length}
+use Rattle.std.proofs.Common.{◌≡◌, ◌<◌, ◌+◌, ◌-◌, ℕ, zero, suc, ℤ, pos, Bool, true, false, ◌||◌, List, [], ◌∷◌, map, Option, Some, None, if◌then◌else◌, refl, sym, ◌∙◌, subst, length}
 use Rattle.std.specs.Prelude.{slice_set, slice_get, is_some, not}
 use Rattle.std.specs.Ordering.{int_eq}
 use Rattle.fin_base.specs.declared.reduce.Reduce.{Reduce}
@@ -20,7 +20,7 @@ use Rattle.fin_ast.specs.Value.{Numbers, place, coordinates, value_of}
 use Rattle.fin_ast.specs.Dense.{Setting, made_at, range_of, shape_at}
 use Rattle.fin_life.specs.Passage.{ModeOf, Passage, turned, breach_of_expr, breach_in, after_all, body_breach, stmt_passage, passage_of, passages_of}
 use Rattle.fin_stage.specs.Stages.{Stage, Absent, Built, Frozen, stage_at, work_of_declaration, work_of_storing}
-use Rattle.fin_stage.specs.Staged.{Run, Action, worked, with_stage, unalive, unordered, with_value, asked_to_read, asked_for_small, has_small_indices, can_read, tensors_of, are_small, braced, repeated, looped, is_made, declare, freeze, freeze_at, thaw, thaw_at, put_at, update_at, update, format_at, staging, stage_of, stage_all}
+use Rattle.fin_stage.specs.Staged.{Run, Action, worked, with_stage, unalive, unordered, asked_to_read, asked_for_small, has_small_indices, can_read, tensors_of, are_small, braced, repeated, is_made, declare, freeze, freeze_at, thaw, thaw_at, put_at, update_at, update, format_at, staging, stage_of, stage_all}
 use Rattle.fin_tensor.specs.Building.{started}
 use Rattle.fin_tensor.specs.Canon.{undecorated}
 use Rattle.fin_ast.specs.Actions.{act_step}

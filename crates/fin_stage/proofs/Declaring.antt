@@ -1,5 +1,5 @@
 -- What is declared isn't declared again in the bodies of a statement.
-use Rattle.std.proofs.Common.{◌≡◌, ℕ, Bool, true, false, ◌||◌, List, [], ◌∷◌, None, if◌then◌else◌, refl, sym, ap, ◌∙◌, subst}
+use Rattle.std.proofs.Common.{◌≡◌, ℕ, Bool, true, false, ◌||◌, List, [], ◌∷◌, None, if◌then◌else◌, refl, sym, ap, ◌∙◌}
 use Rattle.std.specs.Prelude.{nat_eq, ◌==◌}
 use Rattle.fin_base.specs.declared.refusal.Rule.{Rule}
 use Rattle.fin_ast.specs.declared.header.Header.{Header}

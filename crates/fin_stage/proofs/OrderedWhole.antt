@@ -30,7 +30,7 @@ use Rattle.fin_life.specs.Tracks as track
 use Rattle.fin_life.specs.Trails.{Trail, stmt_trail, trail_of, trails_of, breach_along, update_breach}
 use Rattle.fin_life.specs.Trails as trail
 use Rattle.fin_stage.specs.Stages.{Stage, Absent, Built, Frozen, stage_at}
-use Rattle.fin_stage.specs.Staged.{Run, Action, worked, unalive, with_value, asked_to_read, asked_for_small, has_small_indices, can_read, tensors_of, are_small, braced, looped, is_made, declare, freeze, freeze_at, thaw, thaw_at, update_at, update, staging, stage_of, stage_all}
+use Rattle.fin_stage.specs.Staged.{Run, Action, worked, unalive, asked_to_read, asked_for_small, has_small_indices, can_read, tensors_of, are_small, braced, looped, is_made, freeze_at, thaw_at, update_at, update, staging, stage_of, stage_all}
 use Rattle.fin_stage.specs.Fitting.{StagesFit}
 use Rattle.fin_stage.proofs.Alive.{left, right, not_not, holds_there, ready, worked_lives, small_lives}
 use Rattle.fin_stage.proofs.Lexical.{Weak}

@@ -24,7 +24,7 @@ use Rattle.fin_ast.specs.Scope.{Scope, is_among, is_named, are_named, stmt_step,
 use Rattle.fin_ast.specs.Value.{Numbers, number, place, coordinates, value_of}
 use Rattle.fin_ast.specs.Dense.{Setting, range_of, setting_of, unbound}
 use Rattle.fin_stage.specs.Stages.{Stage, Absent, Built, Frozen, stage_at}
-use Rattle.fin_stage.specs.Staged.{Run, Action, worked, with_stage, unalive, unordered, with_value, asked_to_read, asked_for_small, can_read, has_small_indices, tensors_of, is_small, are_small, braced, repeated, looped, is_made, declare, freeze, freeze_at, thaw, thaw_at, put_at, update_at, update, staging, stage_of, stage_all, before_all, staged}
+use Rattle.fin_stage.specs.Staged.{Run, Action, worked, with_stage, unalive, unordered, asked_to_read, asked_for_small, can_read, has_small_indices, tensors_of, is_small, are_small, braced, repeated, is_made, freeze_at, thaw_at, put_at, update_at, staging, stage_of, stage_all, before_all, staged}
 use Rattle.fin_ast.specs.Actions.{act_step}
 use Rattle.fin_ast.proofs.Induction.{AllOf, Held, bare, plain, all_of, each, by_nodes}
 use Rattle.fin_ast.proofs.Unbroken.{second_none}

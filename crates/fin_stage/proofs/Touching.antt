@@ -10,7 +10,7 @@ use Rattle.fin_ast.specs.declared.tree.Expr.{Expr}
 use Rattle.fin_ast.specs.declared.tree.Stmt.{Stmt}
 use Rattle.fin_ast.specs.Actions.{Leaf, Declare, Freeze, Thaw, Update}
 use Rattle.fin_ast.specs.Value.{Numbers, place, coordinates, value_of}
-use Rattle.fin_ast.specs.Dense.{Setting, range_of, shape_at}
+use Rattle.fin_ast.specs.Dense.{Setting, shape_at}
 use Rattle.fin_stage.specs.Stages.{Stage, Absent, Built, Frozen, stage_at, kept}
 use Rattle.fin_stage.specs.Staged.{Run, worked, with_stage, unalive, unsmall, unordered, asked_to_read, asked_for_small, has_small_indices, can_read, tensors_of, are_small, is_made, freeze_at, thaw_at, put_at, update_at, format_at, leaf, staging, stage_of}
 use Rattle.fin_ast.proofs.Leaves.{has_leaf, have_leaf}

@@ -1,5 +1,5 @@
 -- The functions of a run stay tensors of words, where literals, inputs and bound numbers are words.
-use Rattle.std.proofs.Common.{◌≡◌, ℕ, zero, suc, ℤ, pos, Bool, true, false, ◌&&◌, ◌||◌, List, [], ◌∷◌, map, Option, Some, None, if◌then◌else◌, refl, sym, ap, ◌∙◌, subst, inl, inr, arith}
+use Rattle.std.proofs.Common.{◌≡◌, ℕ, ℤ, Bool, true, false, ◌&&◌, ◌||◌, List, [], ◌∷◌, map, Option, Some, None, if◌then◌else◌, refl, sym, ap, ◌∙◌, subst, inl, inr, arith}
 use Rattle.std.specs.Prelude.{not, slice_set, slice_get, IfSome, unwrap_or}
 use Rattle.std.specs.Option.{option_or}
 use Rattle.std.specs.Ordering.{nat_cmp}
@@ -8,24 +8,24 @@ use Rattle.std.specs.FinMap.{get-empty, get}
 use Rattle.fin_base.specs.Words.{IsWord, apply}
 use Rattle.fin_base.specs.declared.reduce.Reduce.{Reduce}
 use Rattle.fin_base.proofs.Reductions.{keeps_words}
-use Rattle.fin_tensor.specs.TensorFunction.{TensorFunction, IsEntry, IsTensor, value_at, filled}
+use Rattle.fin_tensor.specs.TensorFunction.{TensorFunction, IsEntry, value_at, filled}
 use Rattle.fin_tensor.specs.Building.{Building, unchanged, started, follows, updated}
 use Rattle.fin_tensor.specs.Canon.{undecorated}
 use Rattle.fin_tensor.proofs.Functions.{keeps_tensors}
 use Rattle.fin_ast.specs.declared.tree.Expr.{Expr}
 use Rattle.fin_ast.specs.declared.tree.Stmt.{Stmt, map-Stmt}
 use Rattle.fin_ast.specs.declared.tree.Stmt.TheOpen.{Stmt-F}
-use Rattle.fin_ast.specs.Value.{Numbers, Tensors, place, coordinates, value_in, read, value_of}
+use Rattle.fin_ast.specs.Value.{Numbers, place, coordinates, value_in, read, value_of}
 use Rattle.fin_ast.specs.Literals.{is_worded, worded_stmt_step, is_worded_stmt, are_worded}
 use Rattle.fin_ast.specs.Actions.{Leaf, Declare, Freeze, Thaw, Update}
-use Rattle.fin_ast.specs.Dense.{Setting, made_at, shape_at, fill_of, range_of}
+use Rattle.fin_ast.specs.Dense.{Setting, made_at, shape_at, range_of}
 use Rattle.fin_ast.proofs.InBox.{in_box}
 use Rattle.fin_ast.proofs.Induction.{AllOf, Held, bare, plain, all_of, each, by_two}
 use Rattle.fin_ast.proofs.Leaves.{part_step, has_part, have_part}
 use Rattle.fin_ast.proofs.Alike.{idle, Numbered, AreAlike, act_alike, act_all_alike}
 use Rattle.fin_ast.proofs.Wording.{SeesWords, value_is_word}
 use Rattle.fin_stage.specs.Stages.{Stage, Absent, Built, Frozen, stage_at, function_in, frozen_in, kept}
-use Rattle.fin_stage.specs.Staged.{Run, worked, unalive, unsmall, unordered, tensors_of, can_read, has_small_indices, asked_to_read, asked_for_small, are_small, with_value, is_made, format_at, declare, freeze_at, thaw_at, put_at, update_at, update, leaf, staging, stage_of, stage_all}
+use Rattle.fin_stage.specs.Staged.{Run, worked, unalive, unsmall, unordered, tensors_of, can_read, has_small_indices, asked_to_read, asked_for_small, are_small, with_value, is_made, format_at, freeze_at, thaw_at, put_at, update_at, update, leaf, staging, stage_of, stage_all}
 use Rattle.fin_stage.specs.Wordy.{IsWordTensor, IsWordy, AreWordy}
 use Rattle.fin_stage.proofs.Alive.{left, right}
 use Rattle.fin_stage.proofs.Fits.{set_cases, kept_cases, same_fill}
