@@ -65,13 +65,15 @@ fn update(alloc: Global, by: Reduce, value: Value) -> Result<Stmt, AllocError> {
 fn what_is_left(left: &Option<Stmt>) -> Outcome {
     match left {
         None => Outcome::Nothing,
-        Some(Stmt::Update {
-            tensor: _,
-            at: _,
-            by: _,
-            value: Expr::Num(n),
-            line: _,
-        }) => Outcome::ByLiteral(*n),
+        Some(
+            Stmt::Update {
+                tensor: _,
+                at: _,
+                by: _,
+                value: Expr::Num(n),
+                line: _,
+            },
+        ) => Outcome::ByLiteral(*n),
         Some(_) => Outcome::Other,
     }
 }
