@@ -4,14 +4,14 @@ use Rattle.fin_ir.specs.declared.layout.Layout.{Layout}
 use Rattle.fin_stage.specs.Staged.{worked}
 use Rattle.fin_nest.specs.Nests.{Sense}
 use Rattle.fin_nest.specs.Senses.{runs, turns}
-use Rattle.fin_nest.specs.Both.{SensesAreLawful, ChargesAreWork, TurnsAreFree, RegionsFallApart, FoldsAreLoops, CutMachinesStand, Composes, StatementsCompose, StatementsLift, SkippedUpdatesStand, tally_worked, owe_one, BodiesMean}
+use Rattle.fin_nest.specs.Both.{SensesAreLawful, ChargesAreWork, TurnsAreFree, RegionsFallApart, FoldsAreLoops, CutMachinesStand, CutStatementsStand, Composes, StatementsCompose, StatementsLift, SkippedUpdatesStand, tally_worked, owe_one, BodiesMean}
 use Rattle.fin_nest.specs.Performs.{body_code}
 use Rattle.fin_nest.proofs.Bodies.{body_means, body_counted}
 use Rattle.fin_nest.proofs.Folds.{over_cut, cut_stands}
 use Rattle.fin_nest.proofs.Means.{counted_means}
-use Rattle.fin_nest.proofs.Senses.{runs_lawful, runs_charging, turns_lawful, turns_owing}
+use Rattle.fin_nest.proofs.Senses.{runs_lawful, runs_charging, turns_lawful, turns_owing, runs_over, turns_over}
 use Rattle.fin_nest.proofs.Repeated.{loop_is}
-use Rattle.fin_nest.proofs.Lifting.{trailing_performs, turning_performs, skip_behind, skip_regular}
+use Rattle.fin_nest.proofs.Lifting.{trailing_performs, turning_performs, skip_behind, skip_before}
 use Rattle.fin_nest.proofs.Statements.{performs_nothing, performs_then, performs_when, nest_performs}
 
 pub senses_are_lawful : SensesAreLawful
@@ -32,6 +32,9 @@ folds_are_loops = loop_is
 pub cut_machines_stand : CutMachinesStand
 cut_machines_stand s = (cut_stands (runs s) (runs_lawful s), cut_stands (turns s) (turns_lawful s))
 
+pub cut_statements_stand : CutStatementsStand
+cut_statements_stand s = record { in_values = runs_over s; in_turns = turns_over s }
+
 composes : {S : Type 0} (layout : Layout) (sense : Sense S) → Composes layout sense
 composes layout sense = record {
   nothing = performs_nothing layout sense;
@@ -44,15 +47,15 @@ pub statements_compose : StatementsCompose
 statements_compose s layout = (composes layout (runs s), composes layout (turns s))
 
 pub statements_lift : StatementsLift
-statements_lift s layout p cs f before monotone does = record {
-  in_values = trailing_performs s layout p cs f before monotone does;
-  in_turns = turning_performs s layout p cs f before monotone does;
+statements_lift s layout p cs f on monotone does = record {
+  in_values = trailing_performs s layout p cs f on monotone does;
+  in_turns = turning_performs s layout p cs f on monotone does;
 }
 
 pub skipped_updates_stand : SkippedUpdatesStand
 skipped_updates_stand s t at by v = record {
-  in_values = λ r m same h g. skip_behind s t at by v r m same g (h (skip_regular s t at by v r g));
-  in_turns = λ q m same h g. let k = h (skip_regular s t at by v q.run g) in record { behind = skip_behind s t at by v q.run m same g k.behind; turns = k.turns };
+  in_values = λ r m same h g. skip_behind s t at by v r m same g (h (skip_before s t at by v r g));
+  in_turns = λ q m same h g. let k = h (skip_before s t at by v q.run g) in record { behind = skip_behind s t at by v q.run m same g k.behind; turns = k.turns };
 }
 
 pub bodies_mean : BodiesMean

@@ -10,8 +10,8 @@ use Rattle.fin_stage.specs.Staged.{Run, worked, regular}
 use Rattle.fin_stage.proofs.Onward.{Onward, onward_worked}
 use Rattle.fin_stage.proofs.Trailing.{regular_before}
 use Rattle.fin_nest.specs.Related.{Start, Live, Related}
-use Rattle.fin_nest.specs.Laws as laws
-use Rattle.fin_nest.specs.Senses.{exact}
+use Rattle.fin_nest.specs.Laws.{Over}
+use Rattle.fin_nest.specs.Senses.{exact, Advances}
 use Rattle.fin_nest.specs.Performs.{Place, Ready, Left, Performs}
 use Rattle.fin_nest.proofs.Changed.{charge_pays, worked_live}
 
@@ -31,8 +31,9 @@ module _ (s : Start) where
       (λ r m ready l g. inl (subst (Live s [] (worked k r)) (sym (charge_pays s.layout e k m ready.live (value m ready))) (worked_live s [] r m l k)))
       (λ m ready. subst (λ (x : Machine). Left m x p) (sym (charge_pays s.layout e k m ready.live (value m ready))) (record { long = refl; kept = λ d x lt f. refl; steady = λ d t q. refl }))
 
-  -- what goes on stands for it where it is cut
-  pub onward_over : (f : Run → Run) → ((r : Run) → Onward r (f r)) → laws.Over (exact s) f
-  onward_over f on r m cut h g = ⊎_elim
+  -- what takes nothing back stands for it where it is cut
+  pub exact_over : (f : Run → Run) → ((r : Run) → Advances r (f r)) → Over (exact s) f
+  exact_over f on r m cut h g = ⊎_elim
       (λ l. let e = l.cut in absurd (cc))
-      (λ x. let o = on r in inr (record { cut = x.cut; regular = x.regular; over = x.over; most = omega (arith, x.most, o.work) })) (h (regular_before r (f r) (on r) g))
+      (λ x. let o = on r in inr (record { cut = x.cut; regular = x.regular; over = x.over; most = omega (arith, x.most, o.work) }))
+      (h ((on r).before g))

@@ -8,12 +8,9 @@ use Rattle.fin_stage.specs.Trailing.{RunTrails}
 use Rattle.fin_stage.proofs.Onward.{Onward, onward_still}
 use Rattle.fin_stage.proofs.Trailing.{run_itself, regular_before, worked_trails}
 use Rattle.fin_read.specs.Steps.{Agree}
-use Rattle.fin_looplet.specs.View.{Seen}
 use Rattle.fin_nest.specs.Related.{Start, Live, Related}
-use Rattle.fin_nest.specs.Nests.{Body}
-use Rattle.fin_nest.specs.Laws as laws
-use Rattle.fin_nest.specs.Laws.{Lawful, Charges, Owing}
-use Rattle.fin_nest.specs.Senses.{Behind, runs, Tallied, turns}
+use Rattle.fin_nest.specs.Laws.{Lawful, Over, Charges, Owing}
+use Rattle.fin_nest.specs.Senses.{Behind, runs, Tallied, turns, Advances, AdvancesTally}
 use Rattle.fin_nest.proofs.Still.{Stills}
 use Rattle.fin_nest.proofs.Pinning.{alive, live_as, live_locals, goes_on}
 use Rattle.fin_nest.proofs.Means.{with_local}
@@ -39,17 +36,9 @@ count_turns m = by m.cut where
   by true = (omega arith, refl)
   by false = (omega arith, refl)
 
--- ---- bodies
-
--- a body that goes on as statements do
-abbrev pub GoesOn : Body Run → Type 0
-GoesOn body = (ss : List Seen) (begins : Bool) (i : ℤ) (r : Run) → Onward r (body ss begins i r)
-
--- the body goes on, and inner loops raise the tally
-pub record RaisesTally (body : Body Tallied) : Type 0 where
-  pub on : (ss : List Seen) (begins : Bool) (i : ℤ) (t : Tallied) → Onward t.run (body ss begins i t).run
-  pub tally : (ss : List Seen) (begins : Bool) (i : ℤ) (t : Tallied) → t.tally ≤ (body ss begins i t).tally
-  pub owed : (ss : List Seen) (begins : Bool) (i : ℤ) (t : Tallied) → (body ss begins i t).owed ≡ t.owed
+-- ---- what goes on takes nothing back
+pub advances : (r n : Run) → Onward r n → Advances r n
+advances r n o = record { before = regular_before r n o; work = o.work }
 
 module _ (s : Start) where
   -- ---- machines that do what a run does
@@ -88,12 +77,12 @@ module _ (s : Start) where
   charge_behind r m live h = record { run = worked 1 h.run; trails = worked_trails 1 r h.run h.trails; related = charge_related h.run m live h.related }
 
   -- what is cut is cut of the later run too
-  over_later : (r r' n : Run) (m : Machine) → RunTrails r r' → Onward r n → m.cut ≡ true → Related s [] r' m → Related s [] n m
-  over_later r r' n m tr o cut (inl l) = let e = l.cut in absurd (cc)
-  over_later r r' n m tr o cut (inr x) = inr (record { cut = x.cut; regular = x.regular; over = x.over; most = omega (arith, x.most, o.work, tr.work) })
+  over_later : (r r' n : Run) (m : Machine) → RunTrails r r' → r.work ≤ n.work → m.cut ≡ true → Related s [] r' m → Related s [] n m
+  over_later r r' n m tr le cut (inl l) = let e = l.cut in absurd (cc)
+  over_later r r' n m tr le cut (inr x) = inr (record { cut = x.cut; regular = x.regular; over = x.over; most = omega (arith, x.most, le, tr.work) })
 
-  pub cut_behind : (r n : Run) (m : Machine) → Onward r n → m.cut ≡ true → Behind s r m → Behind s n m
-  cut_behind r n m o cut h = record { run = n; trails = run_itself n; related = over_later r h.run n m h.trails o cut h.related }
+  cut_behind : (r n : Run) (m : Machine) → r.work ≤ n.work → m.cut ≡ true → Behind s r m → Behind s n m
+  cut_behind r n m le cut h = record { run = n; trails = run_itself n; related = over_later r h.run n m h.trails le cut h.related }
 
   -- ---- in values and charges
 
@@ -107,8 +96,8 @@ module _ (s : Start) where
   pub runs_charging : Charges s.layout (runs s) (worked 1)
   runs_charging = record { does = λ r m live h g. charge_behind r m live (h g); pays = λ m live. number_pays s.layout 1 m live }
 
-  pub runs_onward : (body : Body Run) → GoesOn body → laws.Onward (runs s) body
-  runs_onward body on ss begins i r m cut h g = cut_behind r (body ss begins i r) m (on ss begins i r) cut (h (regular_before r (body ss begins i r) (on ss begins i r) g))
+  pub runs_over : (f : Run → Run) → ((r : Run) → Advances r (f r)) → Over (runs s) f
+  runs_over f on r m cut h g = let o = on r in cut_behind r (f r) m o.work cut (h (o.before g))
 
   -- ---- in turns
 
@@ -127,8 +116,8 @@ module _ (s : Start) where
     pays = λ m live. number_pays s.layout 1 m live;
   }
 
-  pub turns_onward : (body : Body Tallied) → RaisesTally body → laws.Onward (turns s) body
-  turns_onward body raises ss begins i t m cut h g =
-      let n : Tallied = body ss begins i t in
-      let k = h (regular_before t.run n.run (raises.on ss begins i t) g) in
-      record { behind = cut_behind t.run n.run m (raises.on ss begins i t) cut k.behind; turns = omega (arith, k.turns, raises.tally ss begins i t, raises.owed ss begins i t) }
+  pub turns_over : (f : Tallied → Tallied) → ((t : Tallied) → AdvancesTally t (f t)) → Over (turns s) f
+  turns_over f on t m cut h g =
+      let o = on t in
+      let k = h (o.run.before g) in
+      record { behind = cut_behind t.run (f t).run m o.run.work cut k.behind; turns = omega (arith, k.turns, o.tally, o.owed) }

@@ -9,14 +9,14 @@ use Rattle.fin_ir.specs.declared.layout.Layout.{Layout}
 use Rattle.fin_ir.specs.Machine.{Machine, seen}
 use Rattle.fin_ir.specs.Value.{value_in, is_off}
 use Rattle.fin_ir.specs.Meaning.{meaning_all, span}
-use Rattle.fin_stage.specs.Staged.{Run, Action, worked, repeated, regular}
+use Rattle.fin_stage.specs.Staged.{Run, Action, worked, repeated}
 use Rattle.fin_stage.specs.Trailing.{Monotone, skipped, ChangesNothing}
 use Rattle.fin_looplet.specs.View.{Store, value, Seen}
 use Rattle.fin_looplet.specs.Lists.{seens}
 use Rattle.fin_nest.specs.Related.{Start}
 use Rattle.fin_nest.specs.Nests.{Flags, fresh, flag_at, Nest, Sense, paid_at, views_of, at_flags, part, fold, Kept, Separate, Fits, Means, MeansCounted}
 use Rattle.fin_nest.specs.Laws.{Lawful, Onward, Over, Charges, Owing}
-use Rattle.fin_nest.specs.Senses.{exact, runs, Tallied, turns}
+use Rattle.fin_nest.specs.Senses.{exact, runs, Tallied, turns, Advances, AdvancesTally}
 use Rattle.fin_nest.specs.Performs.{Place, Stay, Ready, Performs, body_code, IsBody}
 
 -- ---- the laws
@@ -43,10 +43,6 @@ TurnsAreFree = (s : Start) (layout : Layout) (c : Code) (n : Nest Run)
 
 -- ---- what the run does, and what it may leave out
 
--- what ends regular was regular before
-abbrev pub RegularBefore : (Run → Run) → Type 0
-RegularBefore f = (r : Run) → regular (f r) ≡ true → regular r ≡ true
-
 -- done to the run of a tally
 abbrev pub in_run : (Run → Run) → Tallied → Tallied
 in_run f t = record t { run = f t.run }
@@ -64,7 +60,7 @@ pub record Lifts (s : Start) (layout : Layout) (p : Place) (cs : List Code) (f :
 
 abbrev pub StatementsLift : Type 0
 StatementsLift = (s : Start) (layout : Layout) (p : Place) (cs : List Code) (f : Run → Run)
-    → RegularBefore f → Monotone f → Performs layout (exact s) p cs f → Lifts s layout p cs f
+    → ((r : Run) → Advances r (f r)) → Monotone f → Performs layout (exact s) p cs f → Lifts s layout p cs f
 
 -- a machine that leaves out an update that changes nothing stands for the run that does it
 pub record SkipStands (s : Start) (t : ℕ) (at : List ℤ) (by : Reduce) (v : ℤ) : Type 0 where
@@ -114,6 +110,14 @@ StandsCut sense = (ts : Store) (ls : List ℤ) (n : Nest _) → Onward sense n.b
 
 abbrev pub CutMachinesStand : Type 0
 CutMachinesStand = (s : Start) → StandsCut (runs s) × StandsCut (turns s)
+
+-- what takes nothing back leaves it standing
+pub record CutStands (s : Start) : Type 0 where
+  pub in_values : (f : Run → Run) → ((r : Run) → Advances r (f r)) → Over (runs s) f
+  pub in_turns : (f : Tallied → Tallied) → ((t : Tallied) → AdvancesTally t (f t)) → Over (turns s) f
+
+abbrev pub CutStatementsStand : Type 0
+CutStatementsStand = (s : Start) → CutStands s
 
 -- ---- statements
 

@@ -17,14 +17,13 @@ pub record Lawful {S : Type 0} (sense : Sense S) : Type 0 where
   -- a stop that pays for nothing
   pub spare : (s : S) (m : Machine) → sense.stands s m → sense.stands (sense.pay s) m
 
--- and of a body: what is cut stands for whatever the run comes to
-abbrev pub Onward : {S : Type 0} → Sense S → Body S → Type 0
-Onward sense body = (ss : List Seen) (begins : Bool) (i : ℤ) (s : _) (m : Machine) → m.cut ≡ true
-    → sense.stands s m → sense.stands (body ss begins i s) m
-
--- the same of what is done to a state
+-- and of what is done to a state: what is cut stands for whatever the run comes to
 abbrev pub Over : {S : Type 0} → Sense S → (S → S) → Type 0
 Over sense f = (s : _) (m : Machine) → m.cut ≡ true → sense.stands s m → sense.stands (f s) m
+
+-- of a body, at each coordinate
+abbrev pub Onward : {S : Type 0} → Sense S → Body S → Type 0
+Onward sense body = (ss : List Seen) (begins : Bool) (i : ℤ) → Over sense (body ss begins i)
 
 -- ---- charges
 

@@ -38,3 +38,16 @@ pub record Turned (s : Start) (t : Tallied) (m : Machine) : Type 0 where
 
 abbrev pub turns : Start → Sense Tallied
 turns s = record { stands = λ t m. regular t.run ≡ true → Turned s t m; pay = λ t. record t { tally = t.tally + 1 } }
+
+-- ---- what is done to runs
+
+-- it takes back no work, and what ends regular was regular before
+pub record Advances (r n : Run) : Type 0 where
+  pub before : regular n ≡ true → regular r ≡ true
+  pub work : r.work ≤ n.work
+
+-- and the tally rises, while what is owed stays
+pub record AdvancesTally (t n : Tallied) : Type 0 where
+  pub run : Advances t.run n.run
+  pub tally : t.tally ≤ n.tally
+  pub owed : n.owed ≡ t.owed

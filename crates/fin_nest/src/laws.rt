@@ -1,6 +1,6 @@
 //! What is proved of nests, in both senses.
 ghost use Rattle.fin_nest.specs.Both.{SensesAreLawful, ChargesAreWork, TurnsAreFree, RegionsFallApart, FoldsAreLoops};
-ghost use Rattle.fin_nest.specs.Both.{CutMachinesStand, StatementsCompose, StatementsLift, SkippedUpdatesStand, BodiesMean};
+ghost use Rattle.fin_nest.specs.Both.{CutMachinesStand, CutStatementsStand, StatementsCompose, StatementsLift, SkippedUpdatesStand, BodiesMean};
 
 /// A machine that stands for a state still does after an assignment; a turn that it counts is paid by a stop; and a
 /// stop may pay for nothing.
@@ -33,6 +33,12 @@ pub fn folds_are_loops()
 /// A machine that was cut stands for the whole fold of a nest, where it stood for the state and the body goes on.
 pub fn cut_machines_stand()
     ensures { CutMachinesStand }
+{}
+
+/// A machine that was cut stands for what is made of its state by whatever takes back no work, no tally and nothing
+/// that the run was asked for.
+pub fn cut_statements_stand()
+    ensures { CutStatementsStand }
 {}
 
 /// Codes that perform statements perform them one after another, and under a condition; code that means a nest

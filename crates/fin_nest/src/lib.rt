@@ -22,6 +22,7 @@
 mod laws;
 
 pub use laws::{
-    bodies_mean, charges_are_work, cut_machines_stand, folds_are_loops, regions_fall_apart,
-    senses_are_lawful, skipped_updates_stand, statements_compose, statements_lift, turns_are_free,
+    bodies_mean, charges_are_work, cut_machines_stand, cut_statements_stand, folds_are_loops,
+    regions_fall_apart, senses_are_lawful, skipped_updates_stand, statements_compose,
+    statements_lift, turns_are_free,
 };
