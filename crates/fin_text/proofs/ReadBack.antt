@@ -232,7 +232,7 @@ pub record Behind (name : List ℕ) (s : Storage) (es : Given_list) (n : ℕ) (r
   pub line_is : line ≡ n + length (tensor_lines name s)
   pub on : Onward reader rest line v
 
-tensor_goes : (name : List ℕ) (s : Storage) (r : Reader) (n : ℕ) (rest : List ℕ) (v : Answer) → IsName name → HasWords s → IsBetween r.due → (Contains (names_of r) name → ⊥)
+pub tensor_goes : (name : List ℕ) (s : Storage) (r : Reader) (n : ℕ) (rest : List ℕ) (v : Answer) → IsName name → HasWords s → IsBetween r.due → (Contains (names_of r) name → ⊥)
     → Onward r (text_of_lines (tensor_lines name s) ++ rest) n v → Behind name s r.given.entries n rest v
 tensor_goes name s r n rest v is fits between new o =
     let es = r.given.entries in

@@ -1,5 +1,5 @@
 //! What is true of the texts of tensors.
-ghost use Rattle.fin_text.specs.Laws.{IsPrefixFree, ReadsBack, ReadsOn};
+ghost use Rattle.fin_text.specs.Laws.{IsPrefixFree, ReadsBack, ReadsEverySequence, ReadsOn, ReadsSequences};
 
 /// Reading the text of a tensor gives that tensor, and nothing else.
 pub fn reads_back()
@@ -15,4 +15,14 @@ pub fn reads_on()
 /// No text of a tensor begins with the text of another one.
 pub fn no_text_is_a_prefix()
     ensures { IsPrefixFree }
+{}
+
+/// What is read is a sequence of texts of tensors, with nothing but empty lines and comments between them.
+pub fn reads_sequences()
+    ensures { ReadsSequences }
+{}
+
+/// Each such sequence is read, as those tensors.
+pub fn reads_every_sequence()
+    ensures { ReadsEverySequence }
 {}
