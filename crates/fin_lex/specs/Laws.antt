@@ -1,5 +1,5 @@
 -- Laws of tokens.
-use Rattle.std.specs.Prelude.{◌≡◌, ℕ, List}
+use Rattle.std.specs.Prelude.{◌≡◌, ◌⊎◌, ℕ, List}
 use Rattle.fin_lex.specs.declared.token.Token.{Token}
 use Rattle.fin_lex.specs.Tokens.{AreTokens, BreaksAt}
 
@@ -14,3 +14,7 @@ NeverBoth = (text : List ℕ) (first_line line : ℕ) (a : List Token) → AreTo
 -- a text breaks at one line at most
 abbrev pub OneLine : Type 0
 OneLine = (text : List ℕ) (first_line l m : ℕ) → BreaksAt text first_line l → BreaksAt text first_line m → l ≡ m
+
+-- a text has tokens or breaks at a line
+abbrev pub TokensOrBreach : Type 0
+TokensOrBreach = (text : List ℕ) (first_line : ℕ) → ((a : List Token) × AreTokens text first_line a) ⊎ ((line : ℕ) × BreaksAt text first_line line)

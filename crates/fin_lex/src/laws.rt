@@ -1,5 +1,5 @@
 //! Laws of the definition of tokens.
-ghost use Rattle.fin_lex.specs.Laws.{OneList, OneLine, NeverBoth};
+ghost use Rattle.fin_lex.specs.Laws.{OneList, OneLine, NeverBoth, TokensOrBreach};
 ghost use Rattle.fin_lex.specs.Vocabulary.{TablesAreTheWords};
 
 /// A text has at most one list of tokens.
@@ -15,6 +15,11 @@ pub fn one_line_of_breach()
 /// A text that has tokens doesn't break.
 pub fn never_both()
     ensures law { NeverBoth }
+{}
+
+/// Each text has tokens or breaks at a line.
+pub fn tokens_or_breach()
+    ensures law { TokensOrBreach }
 {}
 
 /// The tables of reserved words and symbols are those of the language, letter by letter.

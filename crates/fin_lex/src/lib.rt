@@ -8,7 +8,9 @@ mod tables;
 mod token;
 mod tokens;
 
-pub use laws::{never_both, one_line_of_breach, one_list_of_tokens, tables_are_the_words};
+pub use laws::{
+    never_both, one_line_of_breach, one_list_of_tokens, tables_are_the_words, tokens_or_breach,
+};
 pub use tables::{RESERVED, SYMBOLS, WORD_SYMBOLS};
 pub use token::{Token, TokenKind};
 pub use tokens::lex;
