@@ -1,3 +1,4 @@
+pub mod Answered
 pub mod Comings
 pub mod Endings
 pub mod Jobs

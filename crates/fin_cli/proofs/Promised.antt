@@ -10,7 +10,7 @@ use Rattle.fin_engine.specs.Verdict.{IsJob}
 use Rattle.fin_engine.specs.declared.job.Job.{Job}
 use Rattle.fin_tensor.specs.declared.outputs.Outputs.{Outputs}
 use Rattle.fin_cli.specs.Due.{Due, IsDue, IsDueMode, IsDuePlain, IsDueRead, IsDueRun, IsDueThen, outputs_text, reads_job, unread}
-use Rattle.fin_cli.specs.Ends.{Across, Serves, Took}
+use Rattle.fin_cli.specs.Ends.{Across, Failed, Finished, Serves, Took}
 use Rattle.fin_cli.specs.Promises.{AreOutputs, Completes, HasCauses, IsSilent, IsUnasked, UsesExactly, WritesExactly}
 use Rattle.fin_cli.proofs.Comings.{low_due}
 use Rattle.fin_cli.proofs.OneDue.{one_due}
@@ -85,18 +85,12 @@ ranked n h = elim (cases_lt n 3) [
   ])
 ]
 
-pub completes : (asked : Option Asked) (source out err : Across) (status : ℕ) → Serves asked source out err status → Completes asked source out err status
-completes asked source out err status (x, reads, ends) job told quiet calm still =
+-- where nothing failed, what is due for the text was written whole, but for want of memory
+pub finished_or_not : (asked : Option Asked) (source out err : Across) (status : ℕ) (text : List ℕ) → source.before ≡ Some text → Serves asked source out err status
+    → (Failed source → ⊥) → (Failed out → ⊥) → (Failed err → ⊥) → (status ≡ 5) ⊎ ((status ≤ 2) × Finished out err (IsDue asked text) status)
+finished_or_not asked source out err status text told (x, reads, ends) quiet calm still =
     elim (ranked status ends.small) [
-      | inl small ↦
-          let f = ends.finished small in
-          let same : x ≡ job = told_is source.before job x told reads.told in
-          inr (
-            small,
-            λ due is.
-                let e = one_due asked x f.0 due f.1 (subst (λ j. IsDue asked j due) (sym same) is) in
-                (f.2.0 ∙ ap (λ d. d.status) e, subst (λ d. Took out d.out) e f.2.1, subst (λ d. Took err d.err) e f.2.2),
-          )
+      | inl small ↦ inr (small, subst (λ j. Finished out err (IsDue asked j) status) (told_is source.before text x told reads.told) (ends.finished small))
       | inr rest ↦ elim rest [
         | inl three ↦ absurd (quiet (ends.read_fault three).0)
         | inr others ↦ elim others [
@@ -104,6 +98,19 @@ completes asked source out err status (x, reads, ends) job told quiet calm still
           | inr five ↦ inl five
         ]
       ]
+    ]
+
+pub completes : (asked : Option Asked) (source out err : Across) (status : ℕ) → Serves asked source out err status → Completes asked source out err status
+completes asked source out err status serves job told quiet calm still =
+    elim (finished_or_not asked source out err status job told serves quiet calm still) [
+      | inl five ↦ inl five
+      | inr h ↦ inr (
+        h.0,
+        λ due is.
+            let f = h.1 in
+            let e = one_due asked job f.0 due f.1 is in
+            (f.2.0 ∙ ap (λ d. d.status) e, subst (λ d. Took out d.out) e f.2.1, subst (λ d. Took err d.err) e f.2.2),
+      )
     ]
 
 pub has_causes : (asked : Option Asked) (source out err : Across) (status : ℕ) → Serves asked source out err status → HasCauses source out err status

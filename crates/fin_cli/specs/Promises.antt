@@ -1,15 +1,20 @@
 -- What a call promises, in plain words.
-use Rattle.std.specs.Prelude.{◌≡◌, ℕ, ◌≤◌, ◌⊎◌, List, [], IfSome, Some, None}
+use Rattle.std.specs.Prelude.{◌≡◌, ◌≢◌, ℕ, ◌<◌, ◌≤◌, ◌⊎◌, List, [], IfSome, Some, None, codes, length}
 use Rattle.std.specs.Io.KnownBytes.{Consumes, IsAtEnd, Keeps}
 use Rattle.std.specs.declared.option.Option.{Option}
+use Rattle.fin_base.specs.declared.refusal.Rule.{Rule}
+use Rattle.fin_base.specs.declared.refusal.Rule.TheVariants.{B2, J1, W1}
+use Rattle.fin_ports.specs.Bytes.{most}
 use Rattle.fin_words.specs.declared.mode.Asked.{Asked}
 use Rattle.fin_words.specs.declared.mode.Mode.{Mode}
 use Rattle.fin_words.specs.declared.mode.Mode.TheVariants.{Run, Check, Plain, Gen}
-use Rattle.fin_dense.specs.Plain.{IsPlain}
-use Rattle.fin_engine.specs.Verdict.{IsJob}
+use Rattle.fin_dense.specs.Plain.{IsOver, IsPlain}
+use Rattle.fin_stage.specs.Staged.{coordinate_work}
+use Rattle.fin_engine.specs.Run.{StoresAll}
+use Rattle.fin_engine.specs.Verdict.{Accepts, Breaks, IsJob}
 use Rattle.fin_engine.specs.declared.job.Job.{Job}
 use Rattle.fin_tensor.specs.declared.outputs.Outputs.{Outputs}
-use Rattle.fin_cli.specs.Due.{Due, IsDue, IsRun, outputs_text, usage}
+use Rattle.fin_cli.specs.Due.{Due, IsDue, IsRun, line, outputs_text, refusal_text, usage}
 use Rattle.fin_cli.specs.Ends.{Across, Failed, Serves, Took}
 
 -- The outputs of a job in a mode that writes some: the canonical storages of the functions that dense evaluation gives. In `run`
@@ -34,6 +39,39 @@ Completes asked source out err status = (job : List ℕ) → source.before ≡ S
     → (Failed source → ⊥) → (Failed out → ⊥) → (Failed err → ⊥)
     → (status ≡ 5) ⊎ ((status ≤ 2) × ((due : Due) → IsDue asked job due → (status ≡ due.status) × Took out due.out × Took err due.err))
 
+-- Status 0: the output took exactly this text, and the error output nothing.
+abbrev pub Gives : List ℕ → Across → Across → ℕ → Type 0
+Gives text out err status = (status ≡ 0) × Took out text × Took err []
+
+-- Status 0, with the texts of some outputs of a job, of which this holds.
+abbrev pub GivesOutputs : (Outputs → Type 0) → Job → Across → Across → ℕ → Type 0
+GivesOutputs Are job out err status =
+    (outputs : Outputs) × Are outputs × Gives (outputs_text job.checked.program.headers outputs.tensors) out err status
+
+-- Status 1: the output took nothing, and the error output the line of this rule.
+abbrev pub Refuses : Rule → ℕ → Across → Across → ℕ → Type 0
+Refuses rule line out err status = (status ≡ 1) × Took out [] × Took err (refusal_text (record { rule = rule; line = line }))
+
+-- The answer to a text. One that is accepted is run where its work is within the budget, and gives the canonical storages of what
+-- dense evaluation gives; over the budget it is refused by W1. `plain` gives the same, or refuses by B2 what is over its limits;
+-- `check` says that the text is accepted. A text that breaks a rule is refused by that rule on its line, and one that is too long by J1.
+pub record Answers (a : Asked) (text : List ℕ) (out err : Across) (status : ℕ) : Type 0 where
+  pub runs : a.mode ≡ Run → length text ≤ most → (job : Job) → IsJob text job → coordinate_work job.checked job.inputs ≤ a.budget
+      → GivesOutputs (StoresAll job.checked job.inputs) job out err status
+  pub spends : a.mode ≡ Run → length text ≤ most → (job : Job) → IsJob text job → a.budget < coordinate_work job.checked job.inputs
+      → Refuses W1 0 out err status
+  pub evaluates : a.mode ≡ Plain → length text ≤ most → (job : Job) → IsJob text job
+      → GivesOutputs (IsPlain job.checked job.inputs) job out err status ⊎ (IsOver job.checked job.inputs × Refuses B2 0 out err status)
+  pub accepts : a.mode ≡ Check → length text ≤ most → Accepts text → Gives (line (codes "ok")) out err status
+  pub breaks : a.mode ≢ Gen → length text ≤ most → (rule : Rule) (line : ℕ) → Breaks text rule line → Refuses rule line out err status
+  pub too_long : a.mode ≢ Gen → most < length text → Refuses J1 0 out err status
+
+-- Where no count of faults rose, the text that the source had left has its answer, but for want of memory.
+abbrev pub AnswersWhole : Option Asked → Across → Across → Across → ℕ → Type 0
+AnswersWhole asked source out err status = (a : Asked) → asked ≡ Some a → (text : List ℕ) → source.before ≡ Some text
+    → (Failed source → ⊥) → (Failed out → ⊥) → (Failed err → ⊥)
+    → (status ≡ 5) ⊎ Answers a text out err status
+
 -- Words without a reading have status 2, but for a fault of the error output and want of memory.
 abbrev pub IsUnasked : Option Asked → Across → ℕ → Type 0
 IsUnasked asked err status = asked ≡ None → (status ≡ 2) ⊎ ((status ≡ 5) ⊎ ((status ≡ 4) × Failed err))
@@ -56,6 +94,7 @@ IsSilent out status = 1 ≤ status → status ≤ 3 → Took out []
 pub record Promises (asked : Option Asked) (source out err : Across) (status : ℕ) : Type 0 where
   pub headline : WritesExactly Run asked source out status
   pub plain : WritesExactly Plain asked source out status
+  pub answers : AnswersWhole asked source out err status
   pub completeness : Completes asked source out err status
   pub usage : UsesExactly asked source out err status
   pub causes : HasCauses source out err status

@@ -4,7 +4,7 @@ ghost use Rattle.fin_ports.specs.Bytes.{most};
 ghost use Rattle.fin_words.specs.Reading.{asks_workers, reading};
 ghost use Rattle.fin_cli.specs.Due.{IsDueMode, IsDueRead, IsDueThen, reads_job};
 ghost use Rattle.fin_cli.specs.Ends.{Across, Ends, Reads, Serves, over};
-ghost use Rattle.fin_cli.specs.Promises.{Completes, HasCauses, IsSilent, IsUnasked, Promises, UsesExactly};
+ghost use Rattle.fin_cli.specs.Promises.{AnswersWhole, Completes, HasCauses, IsSilent, IsUnasked, Promises, UsesExactly};
 ghost use Rattle.fin_cli.specs.Promises.{WritesExactly};
 ghost use Rattle.fin_cli.specs.Stops.{Comes};
 
@@ -31,6 +31,9 @@ pub fn finch<R: Threads + Wait + Sync, S: Source, O: Sink, E: Sink>(
         (over S.left S.faults source.old source.new) (over O.taken O.faults out.old out.new) result }
     ensures plain { WritesExactly Mode.Plain (reading (map string_bytes words.now))
         (over S.left S.faults source.old source.new) (over O.taken O.faults out.old out.new) result }
+    ensures answers { AnswersWhole (reading (map string_bytes words.now))
+        (over S.left S.faults source.old source.new) (over O.taken O.faults out.old out.new)
+        (over E.taken E.faults err.old err.new) result }
     ensures completeness { Completes (reading (map string_bytes words.now))
         (over S.left S.faults source.old source.new) (over O.taken O.faults out.old out.new)
         (over E.taken E.faults err.old err.new) result }
@@ -72,6 +75,9 @@ pub fn finch_one<S: Source, O: Sink, E: Sink>(
         (over S.left S.faults source.old source.new) (over O.taken O.faults out.old out.new) result }
     ensures plain { WritesExactly Mode.Plain (reading (map string_bytes words.now))
         (over S.left S.faults source.old source.new) (over O.taken O.faults out.old out.new) result }
+    ensures answers { AnswersWhole (reading (map string_bytes words.now))
+        (over S.left S.faults source.old source.new) (over O.taken O.faults out.old out.new)
+        (over E.taken E.faults err.old err.new) result }
     ensures completeness { Completes (reading (map string_bytes words.now))
         (over S.left S.faults source.old source.new) (over O.taken O.faults out.old out.new)
         (over E.taken E.faults err.old err.new) result }

@@ -3,6 +3,7 @@ use Rattle.std.specs.Prelude.{string_bytes}
 use Rattle.fin_words.specs.Reading.{reading}
 use Rattle.fin_words.specs.declared.mode.Mode.TheVariants.{Run, Plain}
 use Rattle.fin_cli.specs.Ends.{over}
+use Rattle.fin_cli.proofs.Answered.{answers_whole}
 use Rattle.fin_cli.proofs.Promised.{completes, has_causes, is_silent, uses_exactly, writes_exactly}
 use Rattle.fin_cli.proofs.top.top.Goals as goal
 
@@ -15,6 +16,7 @@ returns-clause-promises g c =
     let serves = c.serve.ensures.serves in record {
       headline = writes_exactly Run asked source out err c.serve.result refl serves;
       plain = writes_exactly Plain asked source out err c.serve.result refl serves;
+      answers = answers_whole asked source out err c.serve.result serves;
       completeness = completes asked source out err c.serve.result serves;
       usage = uses_exactly asked source out err c.serve.result serves c.serve.ensures.unasked;
       causes = has_causes asked source out err c.serve.result serves;
