@@ -1,6 +1,6 @@
 -- The answer to a text, by what is due for it.
 use Rattle.std.proofs.Common.{◌≡◌, ◌≢◌, ◌<◌, ◌≤◌, ◌⊎◌, ℕ, List, length, refl, ap, ap₂, subst, inl, inr, arith}
-use Rattle.std.specs.Prelude.{Option, Some, None, codes}
+use Rattle.std.specs.Prelude.{Option, codes}
 use Rattle.fin_base.specs.declared.refusal.Rule.{Rule}
 use Rattle.fin_base.specs.declared.refusal.Rule.TheVariants.{B2, J1, W1}
 use Rattle.fin_ports.specs.Bytes.{most}
@@ -15,7 +15,7 @@ use Rattle.fin_engine.specs.declared.job.Job.{Job}
 use Rattle.fin_engine.proofs.Verdicts.{accepted_or_not, one_breach, one_job}
 use Rattle.fin_tensor.specs.declared.outputs.Outputs.{Outputs}
 use Rattle.fin_cli.specs.Due.{Due, IsDue, IsDueMode, IsDuePlain, IsDueRead, IsDueRun, IsDueThen, done, due_outputs, line, refused}
-use Rattle.fin_cli.specs.Ends.{Across, Failed, Finished, Serves, Took}
+use Rattle.fin_cli.specs.Ends.{Across, Finished, Serves, Took}
 use Rattle.fin_cli.specs.Promises.{Answers, AnswersWhole}
 use Rattle.fin_cli.proofs.Promised.{finished_or_not}
 
