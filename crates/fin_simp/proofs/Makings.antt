@@ -12,7 +12,8 @@ use Rattle.fin_ast.specs.Actions.{Leaf, Declare, Freeze, Thaw, Update}
 use Rattle.fin_ast.specs.Dense as dense
 use Rattle.fin_ast.specs.Dense.{Made, made_at, Setting, State, range_of, kept, updated_if}
 use Rattle.fin_ast.proofs.Acting as acting
-use Rattle.fin_ast.proofs.Alike.{none, AreAlike, no_leaf_in, act_all_alike}
+use Rattle.fin_ast.proofs.Alike.{none, Any, AreAlike, no_leaf_in, act_all_alike}
+use Rattle.fin_ast.proofs.Leaves.{neither}
 use Rattle.fin_simp.specs.Marked.{tensors_at, braced, looped, declared, updated, if_holds, leaf, made_by, making, making_all}
 
 module _ (w : Setting) (vars : Numbers) (ts : Made) where
@@ -51,20 +52,21 @@ module _ (w : Setting) where
   leaf_makes (Thaw tensor) vars st = refl
   leaf_makes (Update tensor at by value) vars st = refl
 
-  parts_make : AreAlike (dense.evaluating w) (made_by w) none Makes
+  parts_make : AreAlike (dense.evaluating w) (made_by w) neither none Any Makes
   parts_make = record {
     range = λ var. refl;
+    numbers = λ var n low high. tt;
     still = λ st. refl;
     joined = λ f f' g g' h h' st. h' (f st) ∙ ap g' (h st);
-    value = λ e vars f g h st. h (value_of e vars (tensors_at w st.made)) st;
+    value = λ e vars f g _ _ h st. h (value_of e vars (tensors_at w st.made)) tt st;
     entry = λ var vars st. refl;
     turn = λ var vars n f g h st. h (dense.ticked st);
     brace = λ f g h st. ap (kept (map is_some st.made)) (h st);
-    leaf = λ l vars _. leaf_makes l vars;
+    leaf = λ l vars _ _. leaf_makes l vars;
   }
 
   pub run_all_makes : (body : List Stmt) (vars : Numbers) (st : State) → (dense.run_all w body vars st).made ≡ making_all w body vars st.made
-  run_all_makes body = act_all_alike (dense.evaluating w) (made_by w) none Makes parts_make body (no_leaf_in body)
+  run_all_makes body vars = act_all_alike (dense.evaluating w) (made_by w) neither none Any Makes parts_make body (no_leaf_in body) vars (λ x. tt)
 
 -- ---- the list of tensors stays as long as it is
 pub set_long : (ts : Made) (k : ℕ) (f : Option TensorFunction) → length (slice_set ts k f) ≡ length ts
