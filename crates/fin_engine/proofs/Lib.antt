@@ -5,3 +5,4 @@ pub mod JobsFit
 pub mod Fitted
 pub mod Running
 pub mod Taking
+pub mod Totality

@@ -3,3 +3,4 @@ pub mod Inputs
 pub mod Numbers
 pub mod Verdict
 pub mod Run
+pub mod Laws

@@ -16,10 +16,12 @@
 mod cut;
 mod inputs;
 mod job;
+mod laws;
 mod numbers;
 mod run;
 mod verdict;
 
 pub use job::Job;
+pub use laws::cut_or_endless;
 pub use run::{Done, run_job_one};
 pub use verdict::check;
