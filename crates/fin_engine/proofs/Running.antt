@@ -8,10 +8,7 @@ use Rattle.fin_tensor.specs.Canon.{IsCanon, undecorated}
 use Rattle.fin_ast.specs.declared.header.Header.{Header}
 use Rattle.fin_ast.specs.declared.checked.Checked.{Checked}
 use Rattle.fin_ast.specs.Accepted.{IsAccepted, FitProgram}
-use Rattle.fin_ast.specs.Shaped.{FitHeaders}
 use Rattle.fin_ast.specs.Kinds.{is_output}
-use Rattle.fin_ast.specs.declared.header.Kind.{Kind}
-use Rattle.fin_ast.specs.declared.header.Kind.TheVariants.{Input, Output, Local}
 use Rattle.fin_ast.specs.Dense.{function_of, setting_of, unbound}
 use Rattle.fin_ir.specs.declared.layout.Plan.{Plan}
 use Rattle.fin_ir.specs.Frozen as plain

@@ -1,4 +1,4 @@
--- Each text is cut at its first line `%%`, or has none.
+-- Each text has a program with tokens, or breaks a rule before.
 use Rattle.std.proofs.Common.{◌≡◌, ◌∙◌, ◌⊎◌, ◌+◌, ℕ, Bool, true, false, List, [], ◌∷◌, ◌++◌, length, codes, refl, sym, ap, subst, inl, inr, append_assoc, append-nil}
 use Rattle.std.specs.Prelude.{All}
 use Rattle.std.specs.Bool.{Decides}
@@ -8,7 +8,10 @@ use Rattle.std.proofs.lemmas.List.Elements.{All-nil, All-push}
 use Rattle.std.proofs.lemmas.Slice.Eq.{bytes_eq-Decides}
 use Rattle.fin_text.specs.Text.{text_of_lines}
 use Rattle.fin_engine.specs.Cut.{IsBefore, IsCut, IsEndless, lines}
-use Rattle.fin_engine.specs.Laws.{CutOrEndless}
+use Rattle.fin_engine.specs.Laws.{CutOrEndless, LexedOrBreach}
+use Rattle.fin_engine.specs.Verdict.{Breaks}
+use Rattle.fin_base.specs.declared.refusal.Rule.TheVariants.{J2, S1}
+use Rattle.fin_lex.proofs.Totality.{tokens_or_breach}
 
 abbrev Decided : List ℕ → Type 0
 Decided text = ((program : List ℕ) × (tensors : List ℕ) × (last : ℕ) × IsCut text program tensors last) ⊎ IsEndless text
@@ -42,3 +45,14 @@ from_line text before (line ∷ behind) e none =
 
 pub cut_or_endless : CutOrEndless
 cut_or_endless text = from_line text [] (lines text) refl (All-nil IsBefore)
+
+pub lexed_or_breach : LexedOrBreach
+lexed_or_breach text = elim (cut_or_endless text) [
+  | inl whole ↦
+      let c = whole in
+      elim (tokens_or_breach c.0 1) [
+        | inl h ↦ inr (record { program = c.0; tensors = c.1; last = c.2; tokens = h.0; cut = c.3; lexed = h.1 })
+        | inr h ↦ inl (S1, h.0, Breaks.no_token c.0 c.1 c.2 h.0 c.3 h.1)
+      ]
+  | inr endless ↦ inl (J2, 0, Breaks.endless endless)
+]

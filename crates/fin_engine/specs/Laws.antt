@@ -1,7 +1,24 @@
 -- What is true of the texts of jobs.
 use Rattle.std.specs.Prelude.{◌⊎◌, ℕ, List}
+use Rattle.fin_base.specs.declared.refusal.Rule.{Rule}
+use Rattle.fin_lex.specs.Tokens.{AreTokens}
+use Rattle.fin_lex.specs.declared.token.Token.{Token}
 use Rattle.fin_engine.specs.Cut.{IsCut, IsEndless}
+use Rattle.fin_engine.specs.Verdict.{Breaks}
 
 -- a text is cut into a program and tensors, or no line ends its program
 abbrev pub CutOrEndless : Type 0
 CutOrEndless = (text : List ℕ) → ((program : List ℕ) × (tensors : List ℕ) × (last : ℕ) × IsCut text program tensors last) ⊎ IsEndless text
+
+-- a text with a program that has tokens, and tensors behind it
+pub record IsLexed (text : List ℕ) : Type 0 where
+  pub program : List ℕ
+  pub tensors : List ℕ
+  pub last : ℕ
+  pub tokens : List Token
+  pub cut : IsCut text program tensors last
+  pub lexed : AreTokens program 1 tokens
+
+-- a text breaks `J2` or `S1`, or its program has tokens
+abbrev pub LexedOrBreach : Type 0
+LexedOrBreach = (text : List ℕ) → ((rule : Rule) × (line : ℕ) × Breaks text rule line) ⊎ IsLexed text

@@ -1,7 +1,12 @@
 //! What is true of the texts of jobs.
-ghost use Rattle.fin_engine.specs.Laws.{CutOrEndless};
+ghost use Rattle.fin_engine.specs.Laws.{CutOrEndless, LexedOrBreach};
 
 /// Each text is cut into a program and tensors, or breaks `J2`.
 pub fn cut_or_endless()
     ensures { CutOrEndless }
+{}
+
+/// Each text breaks `J2` or `S1`, or its program has tokens.
+pub fn lexed_or_breach()
+    ensures { LexedOrBreach }
 {}
