@@ -14,11 +14,11 @@ grows : (ds : List ℕ) (n : ℕ) → n ≤ digits_value_after 10 n ds
 grows [] n = omega arith
 grows (d ∷ ds) n = omega (arith, grows ds (n * 10 + digit_value d))
 
-decimal_leads_well : (n : ℕ) → n < 2 ^ 64 → LeadsWell (decimal n)
+pub decimal_leads_well : (n : ℕ) → n < 2 ^ 64 → LeadsWell (decimal n)
 decimal_leads_well zero h = (decimal_nonempty 0 h, λ _. ap length (decimal_digit 0 (omega arith)))
 decimal_leads_well (suc n) h = (decimal_nonempty (suc n) h, λ z. absurd (omega (arith, first_decimal (suc n) (omega arith) h)))
 
-digits_of_decimal : (ds : List ℕ) (n : ℕ) → n < 2 ^ 64 → ds ≡ decimal n → AllDigits 10 ds × (digits_value 10 ds ≡ n)
+pub digits_of_decimal : (ds : List ℕ) (n : ℕ) → n < 2 ^ 64 → ds ≡ decimal n → AllDigits 10 ds × (digits_value 10 ds ≡ n)
 digits_of_decimal ds n h e =
     let is = decimal_is_IsNumeral n h in
     (subst (AllDigits 10) (sym e) is.0.1, ap (digits_value 10) e ∙ is.1)
@@ -63,7 +63,7 @@ SpelledBy word r = MatchOption r ((v : ℤ) → IsWord v → word ≢ spelled v)
 abbrev pub SpelledByMagnitude : List ℕ → Option ℤ → Type 0
 SpelledByMagnitude digits r = MatchOption r ((n : ℕ) → n < 2 ^ 63 → digits ≢ decimal (suc n)) (λ v. IsWord v × (45 ∷ digits ≡ spelled v))
 
-no_value : (digits : List ℕ) → ((n : ℕ) → n < 2 ^ 63 → digits ≢ decimal (suc n)) → (v : ℤ) → IsWord v → 45 ∷ digits ≢ spelled v
+pub no_value : (digits : List ℕ) → ((n : ℕ) → n < 2 ^ 63 → digits ≢ decimal (suc n)) → (v : ℤ) → IsWord v → 45 ∷ digits ≢ spelled v
 no_value digits none (pos n) fits e =
     let all : AllDigits 10 (45 ∷ digits) = (digits_of_decimal (45 ∷ digits) n (omega arith) e).0 in
     omega (arith, digit_from_value 45 all.0)

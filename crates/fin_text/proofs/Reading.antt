@@ -40,7 +40,7 @@ module _ {A : Type 0} (word : A → List ℕ) (Fits : A → Type 0) where
     spaceless v h = All-weaker IsInWord (λ b. b ≢ 32) (λ b p. p.0) (word v) (laws.in_word v h)
 
     -- a space, a word and the rest are the first of some numbers and the others
-    first_number : (behind text after : List ℕ) (us : List A) → IsFirstWord behind text after → All Fits us → 32 ∷ behind ≡ words word us
+    pub first_number : (behind text after : List ℕ) (us : List A) → IsFirstWord behind text after → All Fits us → 32 ∷ behind ≡ words word us
         → (u : A) × (ws : List A) × (us ≡ u ∷ ws) × Fits u × All Fits ws × (text ≡ word u) × (after ≡ words word ws)
     first_number behind text after [] cut h e = absurd (let k = e in cc)
     first_number behind text after (u ∷ ws) cut h e =
@@ -74,7 +74,7 @@ module _ {A : Type 0} (word : A → List ℕ) (Fits : A → Type 0) where
         let (u, others, split, fits_u, fits_others, same, remains) = first_number behind text after us cut all (sym e ∙ rest) in
         none u fits_u same
 
-    no_other_byte : (b : ℕ) (bs : List ℕ) (us : List A) → b ≢ 32 → b ∷ bs ≢ words word us
+    pub no_other_byte : (b : ℕ) (bs : List ℕ) (us : List A) → b ≢ 32 → b ∷ bs ≢ words word us
     no_other_byte b bs [] other e = cc
     no_other_byte b bs (u ∷ us) other e = other (let k = e in cc)
 

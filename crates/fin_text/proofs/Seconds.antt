@@ -33,7 +33,7 @@ pub told_other : (number : ℕ) (after w r : List ℕ) → IsSecond after w r �
 told_other number after w r is (w', r', e, spaceless, ends, digits, leads, other) =
     subst (λ t. AllDigits 10 t × LeadsWell t × (t ≢ decimal number)) (sym (one_second after w r w' r' is (e, spaceless, ends)).0) (digits, leads, other)
 
-part_second : (number : ℕ) (after ns : List ℕ) → number < 2 ^ 64 → TellsPart number after ns → IsSecond after (decimal number) (spaced_sizes ns)
+pub part_second : (number : ℕ) (after ns : List ℕ) → number < 2 ^ 64 → TellsPart number after ns → IsSecond after (decimal number) (spaced_sizes ns)
 part_second number after ns small (e, fits) = (e, All-weaker IsInWord (λ b. b ≢ 32) (λ b p. p.0) (decimal number) (decimal_in_word number small), words_end decimal IsSize ns)
 
 pub no_part : (number : ℕ) (after w r : List ℕ) → number < 2 ^ 64 → IsSecond after w r → (w ≢ decimal number) → (ns : List ℕ) → ¬ (TellsPart number after ns)

@@ -1,11 +1,12 @@
 -- What is true of the texts of tensors.
-use Rattle.std.specs.Prelude.{◌≡◌, ◌≢◌, ℕ, ◌+◌, ◌≤◌, List, [], ◌∷◌, ◌++◌, length, All, Contains, Result, Ok, Err}
+use Rattle.std.specs.Prelude.{◌≡◌, ◌≢◌, ◌⊎◌, ℕ, ◌+◌, ◌≤◌, List, [], ◌∷◌, ◌++◌, length, All, Contains, Result, Ok, Err}
 use Rattle.fin_base.specs.Words.{IsWord}
 use Rattle.fin_base.specs.declared.refusal.Fail.{Fail}
 use Rattle.fin_base.specs.declared.refusal.Fail.TheVariants.{Refused, Memory}
+use Rattle.fin_base.specs.declared.refusal.Rule.{Rule}
 use Rattle.fin_tensor.specs.declared.storage.Storage.{Storage}
 use Rattle.fin_text.specs.Names.{IsName}
-use Rattle.fin_text.specs.Reading.{IsSkipped, ReadsTensors}
+use Rattle.fin_text.specs.Reading.{BreaksText, IsRead, IsSkipped, ReadsTensors}
 use Rattle.fin_text.specs.Tensors.{tensor_lines, tensor_text}
 use Rattle.fin_text.specs.declared.read.Given.{Given}
 
@@ -61,3 +62,8 @@ IsReadAs given (Err (Memory e)) = Unit {0}
 abbrev pub ReadsEverySequence : Type 0
 ReadsEverySequence = (text : List ℕ) (first : ℕ) (given : List (List ℕ × Given)) (answer : Result (List (List ℕ × Given)) Fail)
     → AreTensors [] text first given → ReadsTensors text first answer → IsReadAs given answer
+
+-- each text is read as some tensors, or breaks a rule at a line
+abbrev pub ReadsOrBreaks : Type 0
+ReadsOrBreaks = (text : List ℕ) (first : ℕ)
+    → ((given : List (List ℕ × Given)) × IsRead text first given) ⊎ ((line : ℕ) × (rule : Rule) × BreaksText text first line rule)

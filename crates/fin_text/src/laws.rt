@@ -1,5 +1,5 @@
 //! What is true of the texts of tensors.
-ghost use Rattle.fin_text.specs.Laws.{IsPrefixFree, ReadsBack, ReadsEverySequence, ReadsOn, ReadsSequences};
+ghost use Rattle.fin_text.specs.Laws.{IsPrefixFree, ReadsOrBreaks, ReadsBack, ReadsEverySequence, ReadsOn, ReadsSequences};
 
 /// Reading the text of a tensor gives that tensor, and nothing else.
 pub fn reads_back()
@@ -25,4 +25,9 @@ pub fn reads_sequences()
 /// Each such sequence is read, as those tensors.
 pub fn reads_every_sequence()
     ensures { ReadsEverySequence }
+{}
+
+/// Each text is read as some tensors, or breaks a rule at a line.
+pub fn reads_or_breaks()
+    ensures { ReadsOrBreaks }
 {}
