@@ -26,7 +26,8 @@ use Rattle.fin_text.specs.declared.due.Due.{Due}
 use Rattle.fin_text.specs.declared.due.Due.TheVariants.{Tensor, Format, Fill, Shape, Ptr, Second, Val, End}
 use Rattle.fin_text.specs.declared.read.Given.{Given}
 use Rattle.fin_text.specs.declared.read.Reader.{Reader}
-use Rattle.fin_text.proofs.Decisions.{Decided, few, first_word, form, listed, numbers, other_level, same_word, skips, validity}
+use Rattle.fin_text.proofs.Decisions.{Decided, first_word, listed, same_text}
+use Rattle.fin_text.proofs.LineDecisions.{few, form, numbers, other_level, skips, validity}
 use Rattle.fin_text.proofs.DenseLevels.{dense_end, dense_level, dense_more, dense_stop, second_level}
 
 -- ---- the line behind some levels
@@ -35,7 +36,8 @@ tells : (shape : List ℕ) (parts : List Part) → Decided (AreFew shape parts) 
 tells shape parts (inl h) = (true, (λ e. h, λ f. refl))
 tells shape parts (inr n) = (false, (λ e. absurd (true≢false (sym e)), λ f. absurd (n f)))
 
-after_same : (name : List ℕ) (f : TensorFormat) (shape : List ℕ) (parts more : List Part) (next : Due) → with_dense f more ≡ with_dense f parts → IsAfter name f shape more next → IsAfter name f shape parts next
+after_same : (name : List ℕ) (f : TensorFormat) (shape : List ℕ) (parts more : List Part) (next : Due) → with_dense f more ≡ with_dense f parts → IsAfter name f shape more next
+    → IsAfter name f shape parts next
 after_same name f shape parts more (Ptr at) e h = record { name_is = h.name_is; format_is = h.format_is; shape_is = h.shape_is; parts_are = h.parts_are ∙ e }
 after_same name f shape parts more (Val at) e h = record { name_is = h.name_is; format_is = h.format_is; shape_is = h.shape_is; parts_are = h.parts_are ∙ e }
 after_same name f shape parts more _ e h = elim h [ ]
@@ -121,7 +123,8 @@ next_due given (Second below) w inside form numbers (ns, told, second) =
     let d = below.draft in
     let p = part_with (due_level d) below.ptr ns in
     let a = after below.name d.format d.shape d.placed d.bare d.shaped (d.parts ++ p ∷ [])
-    (levels_more d.format.levels d.shape d.parts p d.shaped.long below.within d.levels (second_level (due_level d) _ _ below.ptr ns below.valid second)) (omega (arith, length_push d.parts p, below.within)) in
+    (levels_more d.format.levels d.shape d.parts p d.shaped.long below.within d.levels (second_level (due_level d) _ _ below.ptr ns below.valid second))
+    (omega (arith, length_push d.parts p, below.within)) in
     (a.0, (ns, told, second, a.1))
 next_due given (Val at) w inside form numbers (vs, told, val) =
     let d = at.draft in (
@@ -198,7 +201,7 @@ module _ (r : Reader) (line : ℕ) (bytes word after : List ℕ) (first : IsFirs
   by_due known (inr other) = inr (X3, looked, BreaksLine.other word after first known other)
 
   by_word : Decided (Contains known_words word) → Outcome r line bytes
-  by_word (inl known) = by_due known (same_word word (due_word r.due))
+  by_word (inl known) = by_due known (same_text word (due_word r.due))
   by_word (inr unknown) = inr (X1, looked, BreaksLine.unknown word after first unknown)
 
 on_line : (r : Reader) (line : ℕ) (bytes : List ℕ) → Outcome r line bytes
