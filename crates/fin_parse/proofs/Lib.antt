@@ -32,3 +32,5 @@ pub mod Elaborations
 pub mod Programs
 pub mod OneProgram
 pub mod PlacedExactly
+pub mod Readings
+pub mod Totality

@@ -1,5 +1,5 @@
 -- What the table of the grammar keeps, form by form and class by class.
-use Rattle.std.proofs.Common.{◌≡◌, ℕ, zero, suc, ◌<◌, ◌≤◌, ◌==◌, Bool, true, false, not, ◌||◌, ◌&&◌, List, [], ◌∷◌, Option, Some, None, refl, sym, ap, ◌∙◌, subst, ◌^◌, arith}
+use Rattle.std.proofs.Common.{◌≡◌, ℕ, zero, suc, ◌<◌, ◌≤◌, ◌==◌, Bool, true, false, not, ◌||◌, ◌&&◌, List, [], ◌∷◌, Option, Some, None, refl, sym, ap, ◌∙◌, subst, ◌^◌}
 use Rattle.std.specs.Prelude.{slice_get}
 use Rattle.std.specs.List.{list_all}
 use Rattle.std.proofs.Math.Dec.{leb}
@@ -426,6 +426,13 @@ unopened _ c h = impossible (sym h)
 
 pub same_self : (c : Class) → same_class c c ≡ true
 same_self c = at_class (λ c. same_class c c) refl c
+
+pub same_is : (c d : Class) → same_class c d ≡ true → c ≡ d
+same_is c d h =
+    let t : not (same_class c d) || class_number c == class_number d ≡ true =
+    at_class (λ d. not (same_class c d) || class_number c == class_number d) (at_class (λ c. every_class (λ d. not (same_class c d) || class_number c == class_number d)) refl c) d in
+    let same : class_number c ≡ class_number d = eqb-true (class_number c) (class_number d) (implied (same_class c d) (class_number c == class_number d) t h) in
+    some_same (sym (class_listed c) ∙ ap (λ k. slice_get classes k) same ∙ class_listed d)
 
 -- a kind of each class
 abbrev pub kind_of : Class → TokenKind

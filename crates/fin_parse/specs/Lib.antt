@@ -19,3 +19,4 @@ pub mod Elaboration
 pub mod HeaderTrees
 pub mod Program
 pub mod Vocabulary
+pub mod Totality

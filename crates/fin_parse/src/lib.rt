@@ -41,7 +41,7 @@ mod trees;
 mod verdict;
 
 pub use grammar::Form;
-pub use laws::words_stand_for;
+pub use laws::{program_or_breach, words_stand_for};
 pub use program::parse;
 pub use tree::Tree;
 pub use trees::Text;
