@@ -8,3 +8,5 @@ pub mod Walks
 pub mod Verdict
 pub mod Levels
 pub mod OneOutcome
+pub mod Representatives
+pub mod Totality

@@ -1,18 +1,18 @@
 -- A program has one outcome: its numbers, or one first breach.
-use Rattle.std.proofs.Common.{◌≡◌, ◌∙◌, ◌<◌, ◌⊎◌, ◌↔◌, inl, inr, ℕ, List, Option, Some, None, nat_le, refl, sym, ap, ap₂, arith}
+use Rattle.std.proofs.Common.{◌≡◌, ◌∙◌, ◌<◌, inl, inr, ℕ, List, Option, Some, None, nat_le, refl, sym, ap, ap₂, arith}
 use Rattle.fin_base.specs.declared.refusal.Refusal.{Refusal}
 use Rattle.fin_ast.specs.declared.program.Program.{Program}
 use Rattle.fin_ast.specs.declared.checked.Dims.{Dims}
 use Rattle.fin_ast.specs.declared.place.Tie.{Tie}
-use Rattle.fin_ast.specs.Ties.{Shapes, Extents, Node, HasExtent, AreExtents, IsUneven, IsFirstUneven, ties_up_to}
+use Rattle.fin_ast.specs.Ties.{Shapes, Extents, AreExtents, IsUneven, IsFirstUneven, ties_up_to}
 use Rattle.fin_dims.proofs.Joined.{uneven_stays}
 use Rattle.fin_dims.proofs.Order.{from_filter}
-use Rattle.fin_ast.specs.Infer.{IsInferred, IsUnevenFirst, IsBrokenAfter, IsFirstBreach, large_in, shapes_in, ties_in, dims_in, breach_in}
+use Rattle.fin_ast.specs.Infer.{IsInferred, IsFirstBreach, large_in, shapes_in, ties_in, dims_in, breach_in}
 
 every_value : {A B : Type 0} (f g : A → B) → ((x : A) → f x ≡ g x) → f ≡ g
 every_value f g h = λ i. λ x. h x i
 
-same_option : (o p : Option ℕ) → ((n : ℕ) → o ≡ Some n → p ≡ Some n) → ((n : ℕ) → p ≡ Some n → o ≡ Some n) → o ≡ p
+pub same_option : (o p : Option ℕ) → ((n : ℕ) → o ≡ Some n → p ≡ Some n) → ((n : ℕ) → p ≡ Some n → o ≡ Some n) → o ≡ p
 same_option None None f g = refl
 same_option None (Some n) f g = g n refl
 same_option (Some n) p f g = sym (f n refl)

@@ -10,14 +10,14 @@ use Rattle.fin_ast.specs.Ties.{Shapes, Extents, AreExtents, IsUneven, IsFirstUne
 use Rattle.fin_dims.specs.Settled.{BreaksAt}
 use Rattle.fin_dims.proofs.Joined.{IsWithin, uneven_stays, extent_stays}
 
-cons_cases : {X : Type 0} (y : X) (ys : List X) (x : X) (k : ℕ) → k < length (y ∷ ys) → get_or (y ∷ ys) k x ≡ x → (y ≡ x) ⊎ Contains ys x
+pub cons_cases : {X : Type 0} (y : X) (ys : List X) (x : X) (k : ℕ) → k < length (y ∷ ys) → get_or (y ∷ ys) k x ≡ x → (y ≡ x) ⊎ Contains ys x
 cons_cases y ys x zero h e = inl e
 cons_cases y ys x (suc k) h e = inr (k, omega arith, e)
 
-later : {X : Type 0} (y : X) (ys : List X) (x : X) → Contains ys x → Contains (y ∷ ys) x
+pub later : {X : Type 0} (y : X) (ys : List X) (x : X) → Contains ys x → Contains (y ∷ ys) x
 later y ys x h = (suc h.0, omega (arith, h.1), h.2)
 
-here : {X : Type 0} (y : X) (ys : List X) (x : X) → y ≡ x → Contains (y ∷ ys) x
+pub here : {X : Type 0} (y : X) (ys : List X) (x : X) → y ≡ x → Contains (y ∷ ys) x
 here y ys x e = (0, omega arith, e)
 
 module _ (p : Tie → Bool) where
@@ -27,7 +27,7 @@ module _ (p : Tie → Bool) where
   kept_by false y ys x eb ex rest (inl e) = let f : true ≡ false = sym ex ∙ ap p (sym e) ∙ eb in absurd (cc)
   kept_by false y ys x eb ex rest (inr h) = rest h
 
-  in_filter : (xs : List Tie) (x : Tie) → p x ≡ true → Contains xs x → Contains (filter p xs) x
+  pub in_filter : (xs : List Tie) (x : Tie) → p x ≡ true → Contains xs x → Contains (filter p xs) x
   in_filter [] x e h = absurd (omega (arith, h.1))
   in_filter (y ∷ ys) x e h = kept_by (p y) y ys x refl e (in_filter ys x e) (cons_cases y ys x h.0 h.1 h.2)
 
@@ -42,7 +42,7 @@ module _ (p : Tie → Bool) where
   from_filter [] x h = absurd (omega (arith, h.1))
   from_filter (y ∷ ys) x h = chosen_by (p y) y ys x refl (from_filter ys x) h
 
-at_most : (a b : ℕ) → a ≤ b → nat_le a b ≡ true
+pub at_most : (a b : ℕ) → a ≤ b → nat_le a b ≡ true
 at_most a b h = grind (arith, nat_tests)
 
 from_at_most : (a b : ℕ) → nat_le a b ≡ true → a ≤ b
@@ -54,7 +54,7 @@ in_take ties n x room h = let below : h.0 < n = omega (arith, h.1, length-take-l
 to_take : (ties : List Tie) (n i : ℕ) (x : Tie) → n ≤ length ties → i < n → get_or ties i x ≡ x → Contains (take n ties) x
 to_take ties n i x room below e = (i, omega (arith, length-take-le n ties room), get_or-take n ties i x below ∙ e)
 
-before_or_not : (a b : ℕ) → (a < b) ⊎ (b ≤ a)
+pub before_or_not : (a b : ℕ) → (a < b) ⊎ (b ≤ a)
 before_or_not a zero = inr (omega arith)
 before_or_not zero (suc b) = inl (omega arith)
 before_or_not (suc a) (suc b) = elim (before_or_not a b) [ inl h ↦ inl (omega arith) | inr h ↦ inr (omega arith) ]

@@ -22,15 +22,15 @@ told_or_not : (o : Option ℕ) → (o ≡ None) ⊎ ((k : ℕ) × (o ≡ Some k)
 told_or_not None = inl refl
 told_or_not (Some k) = inr (k, refl)
 
-or_left : (a b : Option ℕ) (n : ℕ) → a ≡ Some n → option_or a b ≡ Some n
+pub or_left : (a b : Option ℕ) (n : ℕ) → a ≡ Some n → option_or a b ≡ Some n
 or_left None b n e = absurd (none-some n e)
 or_left (Some m) b n e = e
 
-or_right : (a b : Option ℕ) (n : ℕ) → b ≡ Some n → ((m : ℕ) → a ≡ Some m → m ≡ n) → option_or a b ≡ Some n
+pub or_right : (a b : Option ℕ) (n : ℕ) → b ≡ Some n → ((m : ℕ) → a ≡ Some m → m ≡ n) → option_or a b ≡ Some n
 or_right None b n e agree = e
 or_right (Some m) b n e agree = ap Some (agree m refl)
 
-or_back : (a b : Option ℕ) (n : ℕ) → option_or a b ≡ Some n → (a ≡ Some n) ⊎ (b ≡ Some n)
+pub or_back : (a b : Option ℕ) (n : ℕ) → option_or a b ≡ Some n → (a ≡ Some n) ⊎ (b ≡ Some n)
 or_back None b n e = inr e
 or_back (Some m) b n e = inl e
 

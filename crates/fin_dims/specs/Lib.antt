@@ -1,3 +1,4 @@
 pub mod Classes
 pub mod Start
 pub mod Settled
+pub mod Totality

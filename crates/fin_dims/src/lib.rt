@@ -11,8 +11,10 @@ mod classes;
 mod dimensions;
 mod extents;
 mod large;
+mod laws;
 mod settle;
 mod start;
 mod ties;
 
 pub use dimensions::infer;
+pub use laws::inferred_or_breach;
