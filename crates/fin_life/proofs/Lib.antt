@@ -7,3 +7,4 @@ pub mod Kept
 pub mod Carried
 pub mod Trailed
 pub mod Around
+pub mod Completions
