@@ -6,3 +6,4 @@ pub mod Fitted
 pub mod Running
 pub mod Taking
 pub mod Totality
+pub mod Decisions

@@ -22,6 +22,6 @@ mod run;
 mod verdict;
 
 pub use job::Job;
-pub use laws::{cut_or_endless, lexed_or_breach};
+pub use laws::{cut_or_endless, lexed_or_breach, one_verdict};
 pub use run::{Done, run_job_one};
 pub use verdict::check;
