@@ -142,7 +142,11 @@ module _ (shapes : Shapes) (ties : List Tie) (s : Represented shapes ties) (t : 
 
     stands : (a : Node) → (b : Node) × (s.chief b ≡ chief' a) × AreJoined (t ∷ ties) a b
     stands a = elim (same_node (s.chief a) (s.chief loop_of)) [
-      | inl e ↦ (at, sym (picked (same_node (s.chief a) (s.chief loop_of)) (s.chief at) (s.chief a) e), joined_on (t ∷ ties) a loop_of at (stays a loop_of (s.sound a loop_of e)) (joined_back (t ∷ ties) at loop_of tied))
+      | inl e ↦ (
+        at,
+        sym (picked (same_node (s.chief a) (s.chief loop_of)) (s.chief at) (s.chief a) e),
+        joined_on (t ∷ ties) a loop_of at (stays a loop_of (s.sound a loop_of e)) (joined_back (t ∷ ties) at loop_of tied),
+      )
       | inr other ↦ (a, sym (passed (same_node (s.chief a) (s.chief loop_of)) (s.chief at) (s.chief a) other), joined_itself (t ∷ ties) a)
     ]
 
@@ -159,7 +163,8 @@ module _ (shapes : Shapes) (ties : List Tie) (s : Represented shapes ties) (t : 
     with_dimension : (a : Node) → s.chief a ≡ s.chief at → extent' a ≡ both
     with_dimension a e = elim (same_node (s.chief a) (s.chief loop_of)) [
       | inl same ↦ with_loop a same
-      | inr other ↦ passed (same_node (s.chief a) (s.chief loop_of)) both (pick (same_node (s.chief a) (s.chief at)) both (s.extent a)) other ∙ picked (same_node (s.chief a) (s.chief at)) both (s.extent a) e
+      | inr other ↦ passed (same_node (s.chief a) (s.chief loop_of)) both (pick (same_node (s.chief a) (s.chief at)) both (s.extent a)) other
+          ∙ picked (same_node (s.chief a) (s.chief at)) both (s.extent a) e
     ]
 
     with_none : (a : Node) → s.chief a ≢ s.chief loop_of → s.chief a ≢ s.chief at → extent' a ≡ s.extent a

@@ -62,7 +62,8 @@ some_line shapes ties u =
 
 -- ---- rule by rule
 
-by_breach : (program : Program) (inputs : Shapes) → large_in program ≡ None → (s : Represented (shapes_in program inputs) (ties_in program)) → (o : Option Refusal) → breach_in s.extent program ≡ o → IsInferredOrBroken program inputs
+by_breach : (program : Program) (inputs : Shapes) → large_in program ≡ None → (s : Represented (shapes_in program inputs) (ties_in program)) → (o : Option Refusal)
+    → breach_in s.extent program ≡ o → IsInferredOrBroken program inputs
 by_breach program inputs small s None e = inl (
   dims_in s.extent program,
   record { extent = s.extent; small = small; even = represented_even (shapes_in program inputs) (ties_in program) s; extents = s.extents; kept = e; numbers = refl },

@@ -43,7 +43,8 @@ Fails N n c old = (new : List Token) × (deep : Bool) × Outcome N n c old new (
 abbrev Reads : {A : Type 0} (N : Kind A) (n : Room) (c : Class → Bool) (old : List Token) → Type 0
 Reads {A} N n c old = ((new : List Token) × (e : A) × Along N n c old new (Ended e)) ⊎ Fails N n c old
 
-reads_through : {A B : Type 0} (N : Kind A) (g : Room → Room) (c : Class → Bool) (N' : Kind B) (n : Room) (c' : Class → Bool) (f : A → B) (old : List Token) → Through N g c N' n c' f (look (signs old)) → Reads N (g n) c old → Reads N' n c' old
+reads_through : {A B : Type 0} (N : Kind A) (g : Room → Room) (c : Class → Bool) (N' : Kind B) (n : Room) (c' : Class → Bool) (f : A → B) (old : List Token)
+    → Through N g c N' n c' f (look (signs old)) → Reads N (g n) c old → Reads N' n c' old
 reads_through N g c N' n c' f old q (inl a) = inl (a.0, f a.1, through N g c N' n c' f old a.0 q a.1 a.2)
 reads_through N g c N' n c' f old q (inr a) = inr (a.0, a.1, through_fails N g c N' n c' f old a.0 q (stop_of a.1) a.2)
 
@@ -68,7 +69,8 @@ module _ (t : ℕ) (phrases : Phrases t) (k : Room) where
     group_next old mid all a goes next =
         let o = group_goes n k (continues (Many n)) (stops_many n) (solid_many n sound) (apart_many n sound) old mid all a goes in
         elim (phrases k n mid less) [
-          | inl r ↦ next r.0 (all ++ r.1 ∷ []) (phrase_takes k n mid r.0 r.1 (solid_many n sound) r.2) (group_more n k (continues (Many n)) (stops_many n) (solid_many n sound) (apart_many n sound) old mid r.0 all r.1 o r.2)
+          | inl r ↦ next r.0 (all ++ r.1 ∷ []) (phrase_takes k n mid r.0 r.1 (solid_many n sound) r.2)
+              (group_more n k (continues (Many n)) (stops_many n) (solid_many n sound) (apart_many n sound) old mid r.0 all r.1 o r.2)
           | inr f ↦ inr (f.0, f.1, group_fails n k (continues (Many n)) (stops_many n) (solid_many n sound) (apart_many n sound) old mid f.0 all (stop_of f.1) o f.2)
         ]
 
@@ -86,13 +88,15 @@ module _ (t : ℕ) (phrases : Phrases t) (k : Room) where
     many_reads old = group_from (suc (length old)) old old [] (omega arith) (group_start n k (continues (Many n)) (stops_many n) (solid_many n sound) (apart_many n sound) old)
 
   maybe_reads : (n : Phrase) → IsSoundSymbol (Maybe n) → depth k (rank n) < t → (old : List Token) → (b : Bool) → begins n (look (signs old)) ≡ b → Reads (Trees (Maybe n)) k (continues (Maybe n)) old
-  maybe_reads n sound less old true e = reads_through (Trees (One n)) (λ k. k) (goes_on n) (Trees (Maybe n)) k (continues (Maybe n)) (λ u. Group (u ∷ [])) old (maybe_present k n old e) (phrases k n old less)
+  maybe_reads n sound less old true e =
+      reads_through (Trees (One n)) (λ k. k) (goes_on n) (Trees (Maybe n)) k (continues (Maybe n)) (λ u. Group (u ∷ [])) old (maybe_present k n old e) (phrases k n old less)
   maybe_reads n sound less old false e = inl (old, Group [], maybe_absent k n old (not_true _ (sound class.End)) e)
 
   word_missing : (c : Class) → IsSoundSymbol (Word c) → (old : List Token) → (look (signs old) ≡ c → ⊥) → Reads (Trees (Word c)) k (continues (Word c)) old
   word_missing c sound old other = let x = ex_symbol k (Word c) class.End (sound class.End) in inr (old, false, word_stuck k c old x.0 x.1 x.2 other)
 
-  word_at : (c : Class) → IsSoundSymbol (Word c) → (token : Token) (new : List Token) → (b : Bool) → same_class c (class_of token.kind) ≡ b → Reads (Trees (Word c)) k (continues (Word c)) (token ∷ new)
+  word_at : (c : Class) → IsSoundSymbol (Word c) → (token : Token) (new : List Token) → (b : Bool) → same_class c (class_of token.kind) ≡ b
+      → Reads (Trees (Word c)) k (continues (Word c)) (token ∷ new)
   word_at c sound token new true e = inl (new, Leaf token, word_read k c token new (sym (same_is c (class_of token.kind) e)))
   word_at c sound token new false e = word_missing c sound (token ∷ new) (λ is. absurd (let s = same_self c in let t : same_class c c ≡ false = subst (λ d. same_class c d ≡ false) is e in cc))
 
@@ -125,13 +129,15 @@ module _ (t : ℕ) (phrases : Phrases t) (k : Room) where
   symbol_reads : (s : Symbol) → IsSoundSymbol s → depth k (weight s) ≤ t → (old : List Token) → Reads (Trees s) k (continues s) old
   symbol_reads (Word c) sound fits old = word_reads c sound old
   symbol_reads (One n) sound fits old = phrases k n old (omega (arith, fits))
-  symbol_reads (Many n) sound fits old = reads_through (Groups n) (λ k. k) (continues (Many n)) (Trees (Many n)) k (continues (Many n)) Group old (many_through k n (look (signs old))) (many_reads n sound (omega (arith, fits)) old)
+  symbol_reads (Many n) sound fits old =
+      reads_through (Groups n) (λ k. k) (continues (Many n)) (Trees (Many n)) k (continues (Many n)) Group old (many_through k n (look (signs old))) (many_reads n sound (omega (arith, fits)) old)
   symbol_reads (Maybe n) sound fits old = maybe_reads n sound (omega (arith, fits)) old (begins n (look (signs old))) refl
   symbol_reads (Deeper n) sound fits old = deeper_reads n (omega (arith, fits)) old k.levels refl
   symbol_reads (InLoop n) sound fits old = loop_reads n (omega (arith, fits)) old k.loops refl
 
   -- the symbols of a form
-  row_from : (whole : List Symbol) (c : Class → Bool) (row : List Symbol) (old mid : List Token) (all : List Tree) → depth k (row_weight row) ≤ t → Tail c row → Along (Rows whole) k c old mid (RowFrom all row) → Reads (Rows whole) k c old
+  row_from : (whole : List Symbol) (c : Class → Bool) (row : List Symbol) (old mid : List Token) (all : List Tree) → depth k (row_weight row) ≤ t → Tail c row
+      → Along (Rows whole) k c old mid (RowFrom all row) → Reads (Rows whole) k c old
   row_from whole c [] old mid all fits tail a = inl (mid, all, row_ends whole k c old mid all a)
   row_from whole c (s ∷ row) old mid all fits tail a = elim (symbol_reads s (λ d. (both (is_sound s d) (are_sound row d) (tail.sound d)).0) (omega (arith, fits)) mid) [
     | inl r ↦ row_from whole c row old r.0 (all ++ r.1 ∷ []) (omega (arith, fits)) (tail_of c s row tail) (row_more whole k c old mid r.0 all s row r.1 tail a r.2)
@@ -147,7 +153,8 @@ phrase_at : (t : ℕ) → Phrases t → (k : Room) (n : Phrase) (old : List Toke
 phrase_at t phrases k n old less None e = inr (old, false, phrase_stuck k n old e)
 phrase_at t phrases k n old less (Some f) e =
     let light : row_weight (row_of f) ≤ rank n = subst (λ m. row_weight (row_of f) ≤ rank m) (chosen_for n (look (signs old)) f e) (lighter f) in
-    reads_through (Rows (row_of f)) (λ k. k) (row_continues (row_of f)) (Trees (One n)) k (goes_on n) (Node f) old (phrase_by_form k n f old e) (row_reads t phrases k f (omega (arith, less, light)) old)
+    let row = row_reads t phrases k f (omega (arith, less, light)) old in
+    reads_through (Rows (row_of f)) (λ k. k) (row_continues (row_of f)) (Trees (One n)) k (goes_on n) (Node f) old (phrase_by_form k n f old e) row
 
 phrases_read : (t : ℕ) → Phrases t
 phrases_read zero k n old less = absurd (omega (arith, less))
@@ -196,8 +203,8 @@ stopped tokens last new true h = inr (S3, last_line h.0, inl (h.0, new, h.1, ref
 crowded : (tokens : List Token) (last : ℕ) (new : List Token) → TextRead limits tokens new (Err Crowded) → ReadOrBroken tokens last
 crowded tokens last new h = inr (S3, next_line new last, inr (h.0, new, h.1, refl, h.2))
 
-behind_stmts : (tokens : List Token) (last : ℕ) (mid new : List Token) (hs body : List Tree) → Gathered limits tokens mid hs → begins Header (look (signs mid)) ≡ false → Along (Groups Stmt) limits (continues (Many Stmt)) mid new (Ended body)
-    → ReadOrBroken tokens last
+behind_stmts : (tokens : List Token) (last : ℕ) (mid new : List Token) (hs body : List Tree) → Gathered limits tokens mid hs → begins Header (look (signs mid)) ≡ false
+    → Along (Groups Stmt) limits (continues (Many Stmt)) mid new (Ended body) → ReadOrBroken tokens last
 behind_stmts tokens last mid [] hs body g e a = inl (record { headers = hs; body = body }, text_ended limits tokens mid [] hs body g e a refl)
 behind_stmts tokens last mid (t ∷ new) hs body g e a = unexpected tokens last (t ∷ new) (text_goes_on limits tokens mid (t ∷ new) hs body g e a (λ is. let none = ended (t ∷ new) is in cc))
 

@@ -68,14 +68,16 @@ program_made text tokens last trees ok =
 
 -- ---- rule by rule
 
-by_forms : (text : List ℕ) (tokens : List Token) (last : ℕ) (trees : Text) → IsWhole limits tokens trees → name_breaches text trees ≡ [] → (breaches : List Refusal) → form_breaches text trees ≡ breaches → StandsOrBreaks text tokens last
+by_forms : (text : List ℕ) (tokens : List Token) (last : ℕ) (trees : Text) → IsWhole limits tokens trees → name_breaches text trees ≡ [] → (breaches : List Refusal)
+    → form_breaches text trees ≡ breaches → StandsOrBreaks text tokens last
 by_forms text tokens last trees whole names [] e =
     let ok : IsAccepted text tokens trees = record { whole = whole; names = names; forms = e } in
     let made = program_made text tokens last trees ok in
     inl (made.0, (trees, ok, made.1))
 by_forms text tokens last trees whole names (r ∷ rs) e = inr (r, inr (inr (trees, record { whole = whole; names = names; forms = sym (ap first_of e) })))
 
-by_names : (text : List ℕ) (tokens : List Token) (last : ℕ) (trees : Text) → IsWhole limits tokens trees → (breaches : List Refusal) → name_breaches text trees ≡ breaches → StandsOrBreaks text tokens last
+by_names : (text : List ℕ) (tokens : List Token) (last : ℕ) (trees : Text) → IsWhole limits tokens trees → (breaches : List Refusal)
+    → name_breaches text trees ≡ breaches → StandsOrBreaks text tokens last
 by_names text tokens last trees whole [] e = by_forms text tokens last trees whole e (form_breaches text trees) refl
 by_names text tokens last trees whole (r ∷ rs) e = inr (r, inr (inl (trees, record { whole = whole; names = sym (ap first_of e) })))
 
