@@ -21,4 +21,7 @@ mod Lasting
 mod Costing
 mod Staging
 mod Comparing
+mod Mentions
+mod Counting
+mod Origins
 mod Matching

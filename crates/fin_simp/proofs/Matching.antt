@@ -2,7 +2,7 @@
 use Rattle.std.proofs.Common.{◌≡◌, ℕ, ℤ, Bool, true, false, ◌&&◌, ◌||◌, List, [], ◌∷◌, ◌++◌, Option, Some, None, refl, sym, ap, ◌∙◌}
 use Rattle.fin_ast.specs.declared.tree.Expr.{Expr}
 use Rattle.fin_ast.specs.declared.tree.Stmt.{Stmt}
-use Rattle.fin_ast.proofs.Induction.{AllOf, Cases, by_kind}
+use Rattle.fin_ast.proofs.Induction.{AllOf, Cases, by_kind, all_by_kind}
 use Rattle.fin_simp.specs.declared.reads.ExprReads.{ExprReads}
 use Rattle.fin_simp.specs.declared.reads.StmtReads.{StmtReads}
 use Rattle.fin_simp.specs.Numbered.{Here, past_expr, behind, behind_test, past_stmt}
@@ -16,7 +16,7 @@ use Rattle.fin_simp.proofs.Literals.{rest_literal}
 use Rattle.fin_simp.proofs.Equations.{at_num, at_var, at_read, at_neg, at_two, at_block, at_loop, at_cond, at_bind, at_declare, at_freeze, at_thaw, at_update}
 
 -- ---- expressions
-numbers_append : (xs ys : List Access) → numbers_of (xs ++ ys) ≡ numbers_of xs ++ numbers_of ys
+pub numbers_append : (xs ys : List Access) → numbers_of (xs ++ ys) ≡ numbers_of xs ++ numbers_of ys
 numbers_append [] ys = refl
 numbers_append (x ∷ xs) ys = ap (λ (ns : List ℕ). x.read ∷ ns) (numbers_append xs ys)
 
@@ -101,6 +101,9 @@ agree_cases = record {
 
 agrees : (x : Stmt) → Agrees x
 agrees = by_kind Agrees agree_cases
+
+pub nothing_found : (body : List Stmt) (h : Here) (m : Marks) → (reads_of_all body h m).nothing ≡ are_nothing body h m
+nothing_found body h m = bodies body (all_by_kind Agrees agree_cases body) h m
 
 pub reads_are_found : ReadsAreFound
 reads_are_found = record { exprs = found_is; nothing = agrees }
