@@ -7,9 +7,10 @@ use Rattle.fin_ast.specs.Value.{Numbers}
 use Rattle.fin_stage.specs.Staged.{Run, worked, repeated}
 use Rattle.fin_simp.specs.Left.{Marks}
 use Rattle.fin_simp.specs.Rest.{Access, Rest, is_none_kind}
-use Rattle.fin_simp.specs.Work.{Driven, Mask, is_comparison, sight_of, mask_ends, begins_chunk, ends_after, varies_among, names_var, is_one_update, is_in, is_fixed, costing, first_share, turn, turns}
+use Rattle.fin_simp.specs.Work.{Driven, Mask, is_comparison, sight_of, mask_ends, begins_chunk, ends_after, varies_among, names_var, is_one_update, is_in, is_fixed, costing, first_share, turn, turns, entry_of}
 use Rattle.fin_simp.specs.Lasting.{AllMove, KnownSame}
 use Rattle.fin_simp.specs.Costs.{Running, known_at, is_nothing_at, is_fixed_at, Unbroken, PiecesCost}
+use Rattle.fin_simp.specs.Pieces.{Cut, cut_before, lengthened, cut, pieces_in, done_at, unpaid, paid_once, row, by_pieces, MovesOn, Moves, LoopCosts}
 use Rattle.fin_simp.proofs.Lasting.{first_false, second_false, driven_lasts, known_lasts}
 
 -- ---- the same at the next coordinate
@@ -106,6 +107,75 @@ module _ (x : Running) (compare : list_all (λ (k : Mask). is_comparison k.op) x
       ap (on (suc n) (ends_after x.loop x.vars c) (c + 1)) (act_other begins c r h k)
       ∙ other_piece n (c + 1) (ends_after x.loop x.vars c) (done c (worked 1 r)) u.2 (sym (nothing_next c u.1 u.0) ∙ h) (sym (fixed_next c u.1 u.0) ∙ k)
       ∙ ap (λ (m : Marks). repeated (suc n) (c + 1) x.loop.var (x.body m) x.vars (done c (worked 1 r))) (sym (known_next c u.1 u.0))
+
+  -- ---- the table's row
+  later_run : (n c : ℕ) (begins : Bool) (r : Run) → begins ≡ false → Unbroken x n c → is_nothing_at x c ≡ false → is_fixed_at x c ≡ true → on (suc n) begins c r ≡ unpaid x (known_at x c) (suc n) c r
+  later_run zero c begins r b u h k = act_fixed begins c r h k ∙ ap (λ (z : Bool). costing (first_share z) r (done c r)) b
+  later_run (suc n) c begins r b u h k =
+      ap (on (suc n) (ends_after x.loop x.vars c) (c + 1)) (act_fixed begins c r h k ∙ ap (λ (z : Bool). costing (first_share z) r (done c r)) b)
+      ∙ later_run n (c + 1) (ends_after x.loop x.vars c) (costing 0 r (done c r)) u.0 u.2 (sym (nothing_next c u.1 u.0) ∙ h) (sym (fixed_next c u.1 u.0) ∙ k)
+      ∙ ap (λ (m : Marks). unpaid x m (suc n) (c + 1) (costing 0 r (done c r))) (sym (known_next c u.1 u.0))
+
+  fixed_run : (n c : ℕ) (r : Run) → Unbroken x n c → is_nothing_at x c ≡ false → is_fixed_at x c ≡ true → on (suc n) true c r ≡ paid_once x (known_at x c) n c r
+  fixed_run zero c r u h k = act_fixed true c r h k
+  fixed_run (suc n) c r u h k =
+      ap (on (suc n) (ends_after x.loop x.vars c) (c + 1)) (act_fixed true c r h k)
+      ∙ later_run n (c + 1) (ends_after x.loop x.vars c) (costing 2 r (done c r)) u.0 u.2 (sym (nothing_next c u.1 u.0) ∙ h) (sym (fixed_next c u.1 u.0) ∙ k)
+      ∙ ap (λ (m : Marks). unpaid x m (suc n) (c + 1) (costing 2 r (done c r))) (sym (known_next c u.1 u.0))
+
+  row_by : (a b : Bool) (n c : ℕ) (r : Run) → Unbroken x n c → is_nothing_at x c ≡ a → is_fixed_at x c ≡ b → on (suc n) true c r ≡ row x n c r
+  row_by true b n c r u h k = nothing_piece n c true r u h ∙ sym (picked (is_nothing_at x c) (is_fixed_at x c) r _ _ h)
+  row_by false true n c r u h k = fixed_run n c r u h k ∙ sym (picked_second (is_nothing_at x c) (is_fixed_at x c) r _ _ h k)
+  row_by false false n c r u h k = other_piece n c true r u h k ∙ sym (picked_third (is_nothing_at x c) (is_fixed_at x c) r _ _ h k)
+
+  piece_row : (n c : ℕ) (r : Run) → Unbroken x n c → on (suc n) true c r ≡ row x n c r
+  piece_row n c r u = row_by (is_nothing_at x c) (is_fixed_at x c) n c r u refl refl
+
+  -- ---- the pieces of a loop
+  abbrev ends : ℕ → Bool
+  ends = ends_after x.loop x.vars
+
+  abbrev Whole : ℕ → ℕ → Cut → Type 0
+  Whole n c p = Unbroken x p.first c × ((begins : Bool) (r : Run) → on (suc n) begins c r ≡ by_pieces x p.later (c + suc p.first) (on (suc p.first) begins c r))
+
+  next_whole : (n c : ℕ) (p : Cut) (b : Bool) → ends c ≡ b → AllMove x.vars x.loop.var c x.loop.driven → Whole n (c + 1) p → Whole (suc n) c (if b then cut_before p else lengthened p)
+  next_whole n c p true h q w = (
+    tt,
+    λ begins r.
+        let s = act begins c r in
+        ap (λ (z : Bool). on (suc n) z (c + 1) s) h ∙ w.1 true s ∙ ap (by_pieces x p.later (c + 1 + suc p.first)) (piece_row p.first (c + 1) s w.0),
+  )
+  next_whole n c p false h q w = (
+    (h, q, w.0),
+    λ begins r.
+        let s = act begins c r in
+        let far : c + 1 + suc p.first ≡ c + suc (suc p.first) = omega arith in
+        w.1 (ends c) s ∙ ap (λ k. by_pieces x p.later k (on (suc p.first) (ends c) (c + 1) s)) far,
+  )
+
+  whole : (n c : ℕ) → MovesOn x n c → Whole n c (cut ends n c)
+  whole zero c q = (tt, λ begins r. refl)
+  whole (suc n) c q = next_whole n c (cut ends n (c + 1)) (ends c) refl q.0 (whole n (c + 1) q.1)
+
+  loop_pieces : (n c : ℕ) (r : Run) → MovesOn x n c → on (suc n) true c r ≡ by_pieces x (pieces_in ends (suc n) c) c r
+  loop_pieces n c r q =
+      let p = cut ends n c in
+      let w = whole n c q in
+      w.1 true r ∙ ap (by_pieces x p.later (c + suc p.first)) (piece_row p.first c r w.0)
+
+  all_pieces : (len : ℕ) (r : Run) → Moves x len → on len true x.loop.lo r ≡ by_pieces x (pieces_in ends len x.loop.lo) x.loop.lo r
+  all_pieces zero r q = refl
+  all_pieces (suc n) r q = loop_pieces n x.loop.lo r q
+
+unpaid_work : (x : Running) (m : Marks) (n c : ℕ) (r : Run) → (unpaid x m n c r).work ≡ r.work
+unpaid_work x m zero c r = refl
+unpaid_work x m (suc n) c r = unpaid_work x m n (c + 1) (costing 0 r (done_at x m c r)) ∙ omega arith
+
+pub loop_costs : LoopCosts
+loop_costs = record {
+  pieces = λ x r compare q. all_pieces x compare x.loop.len (worked (entry_of x.loop) r) q;
+  once = λ x m n c r. unpaid_work x m n (c + 1) (costing 2 r (done_at x m c r));
+}
 
 pub pieces_cost : PiecesCost
 pieces_cost x n c r compare u = record {
