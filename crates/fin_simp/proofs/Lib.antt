@@ -24,4 +24,6 @@ mod Comparing
 mod Mentions
 mod Counting
 mod Origins
+mod Moving
+mod Loops
 mod Matching

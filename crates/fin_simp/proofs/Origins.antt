@@ -5,7 +5,7 @@ use Rattle.std.specs.Ordering.{int_eq}
 use Rattle.fin_ast.specs.declared.tree.Index.{Index}
 use Rattle.fin_ast.specs.declared.tree.Expr.{Expr}
 use Rattle.fin_ast.specs.declared.tree.Stmt.{Stmt}
-use Rattle.fin_ast.proofs.Induction.{AllOf, Cases, by_kind}
+use Rattle.fin_ast.proofs.Induction.{AllOf, Cases, by_kind, all_by_kind}
 use Rattle.fin_simp.specs.Numbered.{Here, past_expr, behind, behind_test, past_stmt, numbered_all}
 use Rattle.fin_simp.specs.Left.{Marks, binding, as_expr, left_of}
 use Rattle.fin_simp.specs.Remaining.{joined_literal, turned_literal, is_identity_literal}
@@ -152,6 +152,9 @@ module _ (p : Access → Bool) where
 
   stmt_stays : (x : Stmt) → Stays x
   stmt_stays = by_kind Stays stay_cases
+
+  pub body_stays : (body : List Stmt) (h : Here) (m : Marks) → all (texts body h).reads ≡ true → all (rests body h m).reads ≡ true
+  body_stays body h m q = bodies body (all_by_kind Stays stay_cases body) h m q
 
 pub reads_remain : ReadsRemain
 reads_remain x h m = (record { text = stmt_mentions x h m; written = λ p q. stmt_stays p x h m q }, stmt_counts x h m)
