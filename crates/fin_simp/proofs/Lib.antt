@@ -26,4 +26,6 @@ mod Counting
 mod Origins
 mod Moving
 mod Loops
+mod Extents
+mod Singles
 mod Matching

@@ -16,11 +16,11 @@ use Rattle.fin_simp.proofs.Equations.{at_num, at_var, at_read, at_neg, at_two, a
 use Rattle.fin_simp.proofs.Mentions.{rests, stmt_mentions}
 use Rattle.fin_simp.proofs.Counting.{stmt_counts}
 
-left_true : (a b : Bool) → (a && b) ≡ true → a ≡ true
+pub left_true : (a b : Bool) → (a && b) ≡ true → a ≡ true
 left_true true b h = refl
 left_true false b h = h
 
-right_true : (a b : Bool) → (a && b) ≡ true → b ≡ true
+pub right_true : (a b : Bool) → (a && b) ≡ true → b ≡ true
 right_true true b h = h
 right_true false b h = let x : false ≡ true = h in cc
 
@@ -41,7 +41,7 @@ module _ (p : Access → Bool) where
   second : (xs ys : List Access) → all (xs ++ ys) ≡ true → all ys ≡ true
   second xs ys h = right_true (all xs) (all ys) (sym (all_append xs ys) ∙ h)
 
-  both : (xs ys : List Access) → all xs ≡ true → all ys ≡ true → all (xs ++ ys) ≡ true
+  pub both : (xs ys : List Access) → all xs ≡ true → all ys ≡ true → all (xs ++ ys) ≡ true
   both xs ys h k = all_append xs ys ∙ ap (λ b. b && all ys) h ∙ k
 
   -- ---- expressions

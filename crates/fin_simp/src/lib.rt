@@ -21,7 +21,7 @@ mod spine;
 
 pub use facts::{Bound, Facts, Gap, Known};
 pub use laws::{
-    known_lasts, loop_costs, loops_by_pieces, masks_compare, nothing_is_left,
+    accepted_stay, known_lasts, loop_costs, loops_by_pieces, masks_compare, nothing_is_left,
     nothing_makes_nothing, nothing_stages_nothing, nothing_stays_nothing, pieces_cost,
     reads_are_found, reads_remain, simplified_means_the_same, simplified_stages_the_same,
 };
