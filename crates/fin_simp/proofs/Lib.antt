@@ -28,4 +28,5 @@ mod Moving
 mod Loops
 mod Extents
 mod Singles
+mod Gaps
 mod Matching
