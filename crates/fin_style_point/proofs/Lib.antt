@@ -1,0 +1,5 @@
+pub mod Within
+pub mod Spikes
+pub mod Shifts
+pub mod Nothing
+pub mod Both

@@ -1,0 +1,44 @@
+-- What each step keeps: code that means the parts, with the code between them, means the nest; the parts weigh less; and
+-- none depends on what its code changes.
+use Rattle.std.specs.Prelude.{ℕ, ◌<◌, ◌≤◌}
+use Rattle.fin_ir.specs.declared.code.Code.{Code}
+use Rattle.fin_ir.specs.declared.layout.Layout.{Layout}
+use Rattle.fin_looplet.specs.Weight.{weight_of}
+use Rattle.fin_nest.specs.Related.{Start}
+use Rattle.fin_nest.specs.Nests.{Nest, Sense, Separate, Means}
+use Rattle.fin_nest.specs.Laws.{Nothing}
+use Rattle.fin_nest.specs.Senses.{runs, turns}
+use Rattle.fin_style_point.specs.Steps.{Has, is_spike, spike_nest, is_shift, shift_nest, nothing_code}
+
+abbrev pub weight_in : {S : Type 0} → Nest S → ℕ
+weight_in n = weight_of n.reads n.lo n.hi
+
+-- ---- spike
+
+pub record SpikeSplits {S : Type 0} (layout : Layout) (sense : Sense S) (n : Nest S) : Type 0 where
+  pub means : (c : Code) → Means layout sense c (spike_nest n) → Means layout sense c n
+  pub lighter : Has is_spike n.reads → weight_in (spike_nest n) < weight_in n
+  pub separate : Separate n → Separate (spike_nest n)
+
+abbrev pub SpikesSplit : Type 0
+SpikesSplit = (s : Start) (layout : Layout)
+    → ((n : Nest _) → SpikeSplits layout (runs s) n) × ((n : Nest _) → SpikeSplits layout (turns s) n)
+
+-- ---- shift
+
+pub record ShiftSplits {S : Type 0} (layout : Layout) (sense : Sense S) (n : Nest S) : Type 0 where
+  pub means : Separate n → n.next ≤ layout.locals → (c : Code) → Means layout sense c (shift_nest n) → Means layout sense c n
+  pub lighter : Has is_shift n.reads → weight_in (shift_nest n) < weight_in n
+  pub separate : Separate n → Separate (shift_nest n)
+
+abbrev pub ShiftsSplit : Type 0
+ShiftsSplit = (s : Start) (layout : Layout)
+    → ((n : Nest _) → ShiftSplits layout (runs s) n) × ((n : Nest _) → ShiftSplits layout (turns s) n)
+
+-- ---- nothing
+
+abbrev pub NothingMeans : {S : Type 0} → Layout → Sense S → Type 0
+NothingMeans layout sense = (n : Nest _) → Nothing sense n → Means layout sense nothing_code n
+
+abbrev pub NothingIsSkipped : Type 0
+NothingIsSkipped = (s : Start) (layout : Layout) → NothingMeans layout (runs s) × NothingMeans layout (turns s)

@@ -1,0 +1,13 @@
+//! The point styles: the steps that leave no looplets but runs, and of a region one coordinate after another.
+//!
+//! `specs/Steps.antt` says each step as a function from a nest to its parts and to the code between them. A spike becomes
+//! two runs by a cut at its region's end; all shifts are pushed inside at once; and of a nest whose body does nothing no
+//! part is left.
+//!
+//! The laws say of each step, in both senses of nests: code that means the parts, with the code between them, means the
+//! nest; each part weighs less than the nest; and no part depends on what its code changes.
+#![tactic(auto)]
+
+mod laws;
+
+pub use laws::{nothing_is_skipped, shifts_split, spikes_split};
