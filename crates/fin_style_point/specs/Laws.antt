@@ -1,6 +1,6 @@
 -- What each step keeps: code that means the parts, with the code between them, means the nest; the parts weigh less; and
 -- none depends on what its code changes.
-use Rattle.std.specs.Prelude.{ℕ, ◌<◌, ◌≤◌}
+use Rattle.std.specs.Prelude.{◌≡◌, ℕ, ◌<◌, ◌≤◌, Some}
 use Rattle.fin_ir.specs.declared.code.Code.{Code}
 use Rattle.fin_ir.specs.declared.layout.Layout.{Layout}
 use Rattle.fin_looplet.specs.Weight.{weight_of}
@@ -8,7 +8,7 @@ use Rattle.fin_nest.specs.Related.{Start}
 use Rattle.fin_nest.specs.Nests.{Nest, Sense, Separate, Means}
 use Rattle.fin_nest.specs.Laws.{Nothing}
 use Rattle.fin_nest.specs.Senses.{runs, turns}
-use Rattle.fin_style_point.specs.Steps.{Has, is_spike, spike_nest, is_shift, shift_nest, nothing_code}
+use Rattle.fin_style_point.specs.Steps.{Has, is_spike, spike_nest, is_shift, shift_nest, Choice, first_switch, switch_nest, switch_code, nothing_code}
 
 abbrev pub weight_in : {S : Type 0} → Nest S → ℕ
 weight_in n = weight_of n.reads n.lo n.hi
@@ -34,6 +34,19 @@ pub record ShiftSplits {S : Type 0} (layout : Layout) (sense : Sense S) (n : Nes
 abbrev pub ShiftsSplit : Type 0
 ShiftsSplit = (s : Start) (layout : Layout)
     → ((n : Nest _) → ShiftSplits layout (runs s) n) × ((n : Nest _) → ShiftSplits layout (turns s) n)
+
+-- ---- switch
+
+pub record SwitchSplits {S : Type 0} (layout : Layout) (sense : Sense S) (n : Nest S) (c : Choice) : Type 0 where
+  pub means : Separate n → n.next < layout.locals → (a b : Code) → Means layout sense a (switch_nest n c.taken)
+      → Means layout sense b (switch_nest n c.others) → Means layout sense (switch_code n c.test a b) n
+  pub lighter : (weight_in (switch_nest n c.taken) < weight_in n) × (weight_in (switch_nest n c.others) < weight_in n)
+  pub separate : Separate n → Separate (switch_nest n c.taken) × Separate (switch_nest n c.others)
+
+abbrev pub SwitchesSplit : Type 0
+SwitchesSplit = (s : Start) (layout : Layout)
+    → ((n : Nest _) (c : Choice) → first_switch n.reads ≡ Some c → SwitchSplits layout (runs s) n c)
+    × ((n : Nest _) (c : Choice) → first_switch n.reads ≡ Some c → SwitchSplits layout (turns s) n c)
 
 -- ---- nothing
 

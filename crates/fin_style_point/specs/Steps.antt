@@ -1,11 +1,17 @@
 -- The steps of the point styles: each from a nest to its parts and to the code between them.
-use Rattle.std.specs.Prelude.{◌≡◌, ◌⊎◌, List, [], ◌∷◌, map, Bool, true, false}
+use Rattle.std.specs.Prelude.{◌≡◌, ◌⊎◌, ◌+◌, List, [], ◌∷◌, map, Bool, true, false, Option, Some, None, pos}
+use Rattle.fin_base.specs.declared.terms.Op.TheVariants as op
+use Rattle.fin_ir.specs.declared.expression.IExpr.{IExpr}
+use Rattle.fin_ir.specs.declared.expression.IExpr.TheVariants.{Num, Local, Two}
 use Rattle.fin_ir.specs.declared.code.Code.{Code}
-use Rattle.fin_ir.specs.declared.code.Code.TheVariants.{Skip}
-use Rattle.fin_looplet.specs.declared.looplet.Looplet.{Looplet, end_of-Looplet, more_of-Looplet}
-use Rattle.fin_looplet.specs.declared.looplet.Looplet.TheVariants.{Run, Spike, Lookup, Sequence', Stepper', Jumper', Switch', Shift'}
+use Rattle.fin_ir.specs.declared.code.Code.TheVariants.{Skip, Seq, Assign, When}
+use Rattle.fin_looplet.specs.declared.looplet.Case.{Case}
+use Rattle.fin_looplet.specs.declared.looplet.Leaf.TheVariants.{Fill}
+use Rattle.fin_looplet.specs.declared.looplet.Looplet.{Looplet, Row_of-Case, end_of-Case, more_of-Case, end_of-Looplet, more_of-Looplet}
+use Rattle.fin_looplet.specs.declared.looplet.Looplet.TheVariants.{Run, Spike, Lookup, Sequence', Stepper', Jumper', Switch, Switch', Shift'}
 use Rattle.fin_looplet.specs.Cut.{cut}
 use Rattle.fin_looplet.specs.Moved.{moved}
+use Rattle.fin_looplet.specs.Lists.{case_list}
 use Rattle.fin_nest.specs.Nests.{Nest}
 
 -- some looplet of the list is of the kind
@@ -52,6 +58,58 @@ unshifted (Shift' by p (more_of-Looplet child end_of-Looplet)) = moved by child
 
 abbrev pub shift_nest : {S : Type 0} → Nest S → Nest S
 shift_nest n = record n { reads = map unshifted n.reads }
+
+-- ---- switch: the first one, by its first case; the test's value stands in a local, so that one of the parts is run
+
+-- no leaf is asked for there
+abbrev pub nothing_there : Looplet
+nothing_there = Run (Fill (pos 0))
+
+-- a switch by its first case: the child where the test isn't 0, and where it is what the other cases make
+pub record Alternatives : Type 0 where
+  pub test : IExpr
+  pub taken : Looplet
+  pub others : Looplet
+
+abbrev pub switch_of : List Case → Looplet
+switch_of [] = nothing_there
+switch_of (c ∷ cs) = Switch (c ∷ cs)
+
+abbrev pub first_case : {n : _} → Row_of-Case n → Alternatives
+first_case end_of-Case = record { test = Num (pos 0); taken = nothing_there; others = nothing_there }
+first_case (more_of-Case test child rest) = record { test = test; taken = child; others = switch_of (case_list rest) }
+
+abbrev pub alternatives : Looplet → Option Alternatives
+alternatives (Run leaf) = None
+alternatives (Spike body tail) = None
+alternatives (Lookup coord leaf) = None
+alternatives (Sequence' n phases) = None
+alternatives (Stepper' p walker) = None
+alternatives (Jumper' p walker) = None
+alternatives (Switch' n cases) = Some (first_case cases)
+alternatives (Shift' by p child) = None
+
+-- the first switch of a list, with the lists that have its alternatives for it
+pub record Choice : Type 0 where
+  pub test : IExpr
+  pub taken : List Looplet
+  pub others : List Looplet
+
+abbrev pub here_or_later : Option Alternatives → Looplet → List Looplet → Option Choice → Option Choice
+here_or_later (Some a) l rest later = Some (record { test = a.test; taken = a.taken ∷ rest; others = a.others ∷ rest })
+here_or_later None l rest None = None
+here_or_later None l rest (Some c) = Some (record { test = c.test; taken = l ∷ c.taken; others = l ∷ c.others })
+
+abbrev pub first_switch : List Looplet → Option Choice
+first_switch [] = None
+first_switch (l ∷ rest) = here_or_later (alternatives l) l rest (first_switch rest)
+
+abbrev pub switch_nest : {S : Type 0} → Nest S → List Looplet → Nest S
+switch_nest n reads = record n { next = n.next + 1; reads = reads }
+
+abbrev pub switch_code : {S : Type 0} → Nest S → IExpr → Code → Code → Code
+switch_code n test taken others =
+    Seq (Assign n.next test ∷ When (Local n.next) taken ∷ When (Two op.Eq (Local n.next) (Num (pos 0))) others ∷ [])
 
 -- ---- nothing: where the body does nothing no part is left
 

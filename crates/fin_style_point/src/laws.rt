@@ -1,5 +1,5 @@
 //! What is proved of the steps, in both senses.
-ghost use Rattle.fin_style_point.specs.Laws.{SpikesSplit, ShiftsSplit, NothingIsSkipped};
+ghost use Rattle.fin_style_point.specs.Laws.{SpikesSplit, ShiftsSplit, SwitchesSplit, NothingIsSkipped};
 
 /// A nest's spikes may be cut at its region's end: that is two runs each, and weighs less.
 pub fn spikes_split()
@@ -9,6 +9,11 @@ pub fn spikes_split()
 /// A nest's shifts may be pushed inside, all at once, and it weighs less.
 pub fn shifts_split()
     ensures { ShiftsSplit }
+{}
+
+/// A nest's first switch is its first case where that case's test isn't 0, and else its other cases; both weigh less.
+pub fn switches_split()
+    ensures { SwitchesSplit }
 {}
 
 /// Code that does nothing means a nest whose body does nothing.
