@@ -207,29 +207,32 @@ alters (Lookup c k) a e = absurd (cc)
 alters (Sequence' n ps) a e = absurd (cc)
 alters (Stepper' p w) a e = absurd (cc)
 alters (Jumper' p w) a e = absurd (cc)
-alters (Switch' n cs) a e = subst (Alters (Switch' n cs)) (same_some (first_case cs) a e) (record {
-      shows = λ ts ls hi end i t s. taken_shows ts ls hi end i cs t s;
-      sound = λ ts ls hi i t s. taken_sound ts ls hi i cs t s;
-      owns = λ x o. taken_owns x cs o;
-      free = λ x o. taken_free x cs o;
-      loads = λ t o. taken_loads t cs o;
-      shifts = λ x o. taken_shifts x cs o;
-      nested = λ h. taken_nested cs h;
-      lighter = taken_weight cs;
-      test_names = λ x h. first_names x cs h;
-      test_loads = λ t h. first_loads t cs h;
-    }, record {
-      shows = λ ts ls hi end i t s. passed_shows ts ls hi end i cs t s;
-      sound = λ ts ls hi i t s. passed_sound ts ls hi i cs t s;
-      owns = λ x o. passed_owns x cs o;
-      free = λ x o. passed_free x cs o;
-      loads = λ t o. passed_loads t cs o;
-      shifts = λ x o. passed_shifts x cs o;
-      nested = λ h. passed_nested cs h;
-      lighter = passed_weight cs;
-      test_names = λ x h. first_names x cs h;
-      test_loads = λ t h. first_loads t cs h;
-    })
+alters (Switch' n cs) a e = subst (Alters (Switch' n cs)) (same_some (first_case cs) a e) (
+  record {
+    shows = λ ts ls hi end i t s. taken_shows ts ls hi end i cs t s;
+    sound = λ ts ls hi i t s. taken_sound ts ls hi i cs t s;
+    owns = λ x o. taken_owns x cs o;
+    free = λ x o. taken_free x cs o;
+    loads = λ t o. taken_loads t cs o;
+    shifts = λ x o. taken_shifts x cs o;
+    nested = λ h. taken_nested cs h;
+    lighter = taken_weight cs;
+    test_names = λ x h. first_names x cs h;
+    test_loads = λ t h. first_loads t cs h;
+  },
+  record {
+    shows = λ ts ls hi end i t s. passed_shows ts ls hi end i cs t s;
+    sound = λ ts ls hi i t s. passed_sound ts ls hi i cs t s;
+    owns = λ x o. passed_owns x cs o;
+    free = λ x o. passed_free x cs o;
+    loads = λ t o. passed_loads t cs o;
+    shifts = λ x o. passed_shifts x cs o;
+    nested = λ h. passed_nested cs h;
+    lighter = passed_weight cs;
+    test_names = λ x h. first_names x cs h;
+    test_loads = λ t h. first_loads t cs h;
+  },
+)
 alters (Shift' by p c) a e = absurd (cc)
 
 choose : (o : Option Alternatives) (l : Looplet) (rest : List Looplet) (p : Option Choice) → ((a : Alternatives) → o ≡ Some a → Alters l a) → ((d : Choice) → p ≡ Some d → Chooses rest d) → (c : Choice) → here_or_later o l rest p ≡ Some c → Chooses (l ∷ rest) c

@@ -3,5 +3,8 @@ pub mod Spikes
 pub mod Shifts
 pub mod Branches
 pub mod Switches
+pub mod Flat
+pub mod ForLoops
+pub mod Points
 pub mod Nothing
 pub mod Both

@@ -5,10 +5,10 @@ use Rattle.fin_ir.specs.declared.code.Code.{Code}
 use Rattle.fin_ir.specs.declared.layout.Layout.{Layout}
 use Rattle.fin_looplet.specs.Weight.{weight_of}
 use Rattle.fin_nest.specs.Related.{Start}
-use Rattle.fin_nest.specs.Nests.{Nest, Sense, Separate, Means}
-use Rattle.fin_nest.specs.Laws.{Nothing}
+use Rattle.fin_nest.specs.Nests.{Nest, Sense, Separate, Means, MeansCounted}
+use Rattle.fin_nest.specs.Laws.{Onward, Flagless, AtPoints, Nothing}
 use Rattle.fin_nest.specs.Senses.{runs, turns}
-use Rattle.fin_style_point.specs.Steps.{Has, is_spike, spike_nest, is_shift, shift_nest, Choice, first_switch, switch_nest, switch_code, nothing_code}
+use Rattle.fin_style_point.specs.Steps.{Has, is_spike, spike_nest, is_shift, shift_nest, Choice, first_switch, switch_nest, switch_code, AllFlat, point_nest, for_code, nothing_code}
 
 abbrev pub weight_in : {S : Type 0} → Nest S → ℕ
 weight_in n = weight_of n.reads n.lo n.hi
@@ -47,6 +47,19 @@ abbrev pub SwitchesSplit : Type 0
 SwitchesSplit = (s : Start) (layout : Layout)
     → ((n : Nest _) (c : Choice) → first_switch n.reads ≡ Some c → SwitchSplits layout (runs s) n c)
     × ((n : Nest _) (c : Choice) → first_switch n.reads ≡ Some c → SwitchSplits layout (turns s) n c)
+
+-- ---- run and lookup
+
+-- the part's code has a turn counted behind it
+pub record PointsSplit {S : Type 0} (layout : Layout) (sense : Sense S) (n : Nest S) : Type 0 where
+  pub means : Separate n → Onward sense n.body → n.next < layout.locals → AllFlat n.reads → Flagless n → AtPoints n.body
+      → (c : Code) → MeansCounted layout sense c (point_nest n) → Means layout sense (for_code n c) n
+  pub lighter : AllFlat n.reads → 0 < weight_in n → weight_in (point_nest n) < weight_in n
+  pub separate : AllFlat n.reads → Separate n → Separate (point_nest n)
+
+abbrev pub LoopsSplit : Type 0
+LoopsSplit = (s : Start) (layout : Layout)
+    → ((n : Nest _) → PointsSplit layout (runs s) n) × ((n : Nest _) → PointsSplit layout (turns s) n)
 
 -- ---- nothing
 

@@ -1,15 +1,15 @@
 -- The steps of the point styles: each from a nest to its parts and to the code between them.
-use Rattle.std.specs.Prelude.{◌≡◌, ◌⊎◌, ◌+◌, List, [], ◌∷◌, map, Bool, true, false, Option, Some, None, pos}
+use Rattle.std.specs.Prelude.{◌≡◌, ◌⊎◌, ℕ, ◌+◌, List, [], ◌∷◌, ◌++◌, map, Bool, true, false, Option, Some, None, pos}
 use Rattle.fin_base.specs.declared.terms.Op.TheVariants as op
 use Rattle.fin_ir.specs.declared.expression.IExpr.{IExpr}
 use Rattle.fin_ir.specs.declared.expression.IExpr.TheVariants.{Num, Local, Two}
 use Rattle.fin_ir.specs.declared.code.Code.{Code}
-use Rattle.fin_ir.specs.declared.code.Code.TheVariants.{Skip, Seq, Assign, When}
+use Rattle.fin_ir.specs.declared.code.Code.TheVariants.{Skip, Seq, Assign, When, ForLoop}
 use Rattle.fin_looplet.specs.declared.looplet.Case.{Case}
 use Rattle.fin_looplet.specs.declared.looplet.Leaf.TheVariants.{Fill}
 use Rattle.fin_looplet.specs.declared.looplet.Looplet.{Looplet, Row_of-Case, end_of-Case, more_of-Case, end_of-Looplet, more_of-Looplet}
 use Rattle.fin_looplet.specs.declared.looplet.Looplet.TheVariants.{Run, Spike, Lookup, Sequence', Stepper', Jumper', Switch, Switch', Shift'}
-use Rattle.fin_looplet.specs.Cut.{cut}
+use Rattle.fin_looplet.specs.Cut.{plus, cut}
 use Rattle.fin_looplet.specs.Moved.{moved}
 use Rattle.fin_looplet.specs.Lists.{case_list}
 use Rattle.fin_nest.specs.Nests.{Nest}
@@ -110,6 +110,61 @@ switch_nest n reads = record n { next = n.next + 1; reads = reads }
 abbrev pub switch_code : {S : Type 0} → Nest S → IExpr → Code → Code → Code
 switch_code n test taken others =
     Seq (Assign n.next test ∷ When (Local n.next) taken ∷ When (Two op.Eq (Local n.next) (Num (pos 0))) others ∷ [])
+
+-- ---- run and lookup: one coordinate after another, where each lookup is a run of what it is at that coordinate
+
+abbrev pub is_flat : Looplet → Bool
+is_flat (Run leaf) = true
+is_flat (Spike body tail) = false
+is_flat (Lookup coord leaf) = true
+is_flat (Sequence' n phases) = false
+is_flat (Stepper' p walker) = false
+is_flat (Jumper' p walker) = false
+is_flat (Switch' n cases) = false
+is_flat (Shift' by p child) = false
+
+abbrev pub AllFlat : List Looplet → Type 0
+AllFlat [] = Unit {0}
+AllFlat (l ∷ rest) = (is_flat l ≡ true) × AllFlat rest
+
+abbrev pub held : Looplet → Looplet
+held (Run leaf) = Run leaf
+held (Spike body tail) = Spike body tail
+held (Lookup coord leaf) = Run leaf
+held (Sequence' n phases) = Sequence' n phases
+held (Stepper' p walker) = Stepper' p walker
+held (Jumper' p walker) = Jumper' p walker
+held (Switch' n cases) = Switch' n cases
+held (Shift' by p child) = Shift' by p child
+
+-- the locals of the lookups' coordinates
+abbrev pub coordinate : Looplet → List ℕ
+coordinate (Run leaf) = []
+coordinate (Spike body tail) = []
+coordinate (Lookup coord leaf) = coord ∷ []
+coordinate (Sequence' n phases) = []
+coordinate (Stepper' p walker) = []
+coordinate (Jumper' p walker) = []
+coordinate (Switch' n cases) = []
+coordinate (Shift' by p child) = []
+
+abbrev pub coordinates : List Looplet → List ℕ
+coordinates [] = []
+coordinates (l ∷ rest) = coordinate l ++ coordinates rest
+
+abbrev pub hold : List ℕ → IExpr → List Code
+hold locals at = map (λ c. Assign c at) locals
+
+abbrev pub point_nest : {S : Type 0} → Nest S → Nest S
+point_nest n = record n {
+  lo = Local n.next;
+  hi = plus (Local n.next) (Num (pos 1));
+  next = n.next + 1;
+  reads = map held n.reads;
+}
+
+abbrev pub for_code : {S : Type 0} → Nest S → Code → Code
+for_code n point = ForLoop n.next n.lo n.hi (Seq (hold (coordinates n.reads) (Local n.next) ++ point ∷ []))
 
 -- ---- nothing: where the body does nothing no part is left
 

@@ -1,5 +1,5 @@
 //! What is proved of the steps, in both senses.
-ghost use Rattle.fin_style_point.specs.Laws.{SpikesSplit, ShiftsSplit, SwitchesSplit, NothingIsSkipped};
+ghost use Rattle.fin_style_point.specs.Laws.{SpikesSplit, ShiftsSplit, SwitchesSplit, LoopsSplit, NothingIsSkipped};
 
 /// A nest's spikes may be cut at its region's end: that is two runs each, and weighs less.
 pub fn spikes_split()
@@ -14,6 +14,12 @@ pub fn shifts_split()
 /// A nest's first switch is its first case where that case's test isn't 0, and else its other cases; both weigh less.
 pub fn switches_split()
     ensures { SwitchesSplit }
+{}
+
+/// A nest of runs and lookups is a loop over its coordinates, where code that means the nest of one of them is run with
+/// a turn counted behind it; and such a nest weighs nothing.
+pub fn loops_split()
+    ensures { LoopsSplit }
 {}
 
 /// Code that does nothing means a nest whose body does nothing.

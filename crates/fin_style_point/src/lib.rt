@@ -1,7 +1,8 @@
 //! The point styles: the steps that leave no looplets but runs, and of a region one coordinate after another.
 //!
 //! `specs/Steps.antt` says each step as a function from a nest to its parts and to the code between them. A spike becomes
-//! two runs by a cut at its region's end; all shifts are pushed inside at once; the first switch is its first case or the others; and of a nest whose body does nothing no
+//! two runs by a cut at its region's end; all shifts are pushed inside at once; the first switch is its first case or the others; runs
+//! and lookups are a loop over the coordinates, with each lookup a run at its coordinate; and of a nest whose body does nothing no
 //! part is left.
 //!
 //! The laws say of each step, in both senses of nests: code that means the parts, with the code between them, means the
@@ -10,4 +11,4 @@
 
 mod laws;
 
-pub use laws::{nothing_is_skipped, shifts_split, spikes_split, switches_split};
+pub use laws::{loops_split, nothing_is_skipped, shifts_split, spikes_split, switches_split};
