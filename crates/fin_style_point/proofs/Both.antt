@@ -1,11 +1,12 @@
 -- What every lawful sense has, in both senses.
 use Rattle.fin_nest.specs.Senses.{runs, turns}
 use Rattle.fin_nest.proofs.Senses.{runs_lawful, turns_lawful}
-use Rattle.fin_style_point.specs.Laws.{SpikesSplit, ShiftsSplit, SwitchesSplit, LoopsSplit, NothingIsSkipped}
+use Rattle.fin_style_point.specs.Laws.{SpikesSplit, ShiftsSplit, SwitchesSplit, LoopsSplit, FixedIsAtOnce, NothingIsSkipped}
 use Rattle.fin_style_point.proofs.Spikes.{spike_splits}
 use Rattle.fin_style_point.proofs.Shifts.{shift_splits}
 use Rattle.fin_style_point.proofs.Switches.{switch_splits}
 use Rattle.fin_style_point.proofs.Points.{points_split}
+use Rattle.fin_style_point.proofs.Times.{times_means}
 use Rattle.fin_style_point.proofs.Nothing.{nothing_means}
 
 pub spikes_split : SpikesSplit
@@ -19,6 +20,9 @@ switches_split s layout = (switch_splits layout (runs s) (runs_lawful s), switch
 
 pub loops_split : LoopsSplit
 loops_split s layout = (points_split layout (runs s) (runs_lawful s), points_split layout (turns s) (turns_lawful s))
+
+pub fixed_is_at_once : FixedIsAtOnce
+fixed_is_at_once s layout = (times_means layout (runs s), times_means layout (turns s))
 
 pub nothing_is_skipped : NothingIsSkipped
 nothing_is_skipped s layout = (nothing_means layout (runs s) (runs_lawful s), nothing_means layout (turns s) (turns_lawful s))

@@ -7,7 +7,7 @@ use Rattle.fin_looplet.specs.declared.looplet.Looplet.TheVariants.{Run, Spike, L
 use Rattle.fin_looplet.specs.View.{Store, Sight, view}
 use Rattle.fin_looplet.specs.Sound.{SoundWithin, Near}
 use Rattle.fin_looplet.specs.Locals.{Free, LoadsIn, Owns, ShiftNames, Nested}
-use Rattle.fin_looplet.specs.Lists.{views, seens, AllSound, AnyFree, AnyLoads, AnyOwns, AnyShiftNames, AllNested, AllApart}
+use Rattle.fin_looplet.specs.Lists.{views, seens, any_ends, AllSound, AnyFree, AnyLoads, AnyOwns, AnyShiftNames, AllNested, AllApart}
 use Rattle.fin_looplet.specs.Weight.{weight, weights}
 use Rattle.fin_looplet.proofs.Exprs.{get}
 use Rattle.fin_looplet.proofs.Frame.{leaf_same}
@@ -41,6 +41,16 @@ one_stop ts ls end i (Stepper' parts walker) f = absurd (cc)
 one_stop ts ls end i (Jumper' parts walker) f = absurd (cc)
 one_stop ts ls end i (Switch' n cases) f = absurd (cc)
 one_stop ts ls end i (Shift' by parts child) f = absurd (cc)
+
+one_end : (ts : Store) (ls : List ℤ) (end i : ℤ) (l : Looplet) → is_flat l ≡ true → (view ts ls l end i).ends ≡ false
+one_end ts ls end i (Run leaf) f = refl
+one_end ts ls end i (Spike body tail) f = absurd (cc)
+one_end ts ls end i (Lookup coord leaf) f = refl
+one_end ts ls end i (Sequence' n phases) f = absurd (cc)
+one_end ts ls end i (Stepper' parts walker) f = absurd (cc)
+one_end ts ls end i (Jumper' parts walker) f = absurd (cc)
+one_end ts ls end i (Switch' n cases) f = absurd (cc)
+one_end ts ls end i (Shift' by parts child) f = absurd (cc)
 
 one_sound : (ts : Store) (ls : List ℤ) (hi i : ℤ) (l : Looplet) → is_flat l ≡ true → SoundWithin Near ts ls (held l) (λ j. j <ℤ hi) i
 one_sound ts ls hi i (Run k) f = tt
@@ -132,6 +142,11 @@ none_counted ts ls end i [] rs f = refl
 none_counted ts ls end i (b ∷ bs) [] f = refl
 none_counted ts ls end i (b ∷ bs) (l ∷ rest) f =
     ap (λ (s : Bool). (b && s) || any_counted bs (views ts ls rest end i)) (one_stop ts ls end i l f.0) ∙ stops_none b (any_counted bs (views ts ls rest end i)) (none_counted ts ls end i bs rest f.1)
+
+-- no part ends
+pub flat_ends : (ts : Store) (ls : List ℤ) (end i : ℤ) (rs : List Looplet) → AllFlat rs → any_ends (views ts ls rs end i) ≡ false
+flat_ends ts ls end i [] f = refl
+flat_ends ts ls end i (l ∷ rest) f = ap (λ (b : Bool). b || any_ends (views ts ls rest end i)) (one_end ts ls end i l f.0) ∙ flat_ends ts ls end i rest f.1
 
 pub held_sound : (ts : Store) (ls : List ℤ) (hi i : ℤ) (rs : List Looplet) → AllFlat rs → AllSound Near ts ls (map held rs) (λ j. j <ℤ hi) i
 held_sound ts ls hi i [] f = tt

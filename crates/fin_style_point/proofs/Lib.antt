@@ -6,5 +6,6 @@ pub mod Switches
 pub mod Flat
 pub mod ForLoops
 pub mod Points
+pub mod Times
 pub mod Nothing
 pub mod Both

@@ -166,6 +166,11 @@ point_nest n = record n {
 abbrev pub for_code : {S : Type 0} → Nest S → Code → Code
 for_code n point = ForLoop n.next n.lo n.hi (Seq (hold (coordinates n.reads) (Local n.next) ++ point ∷ []))
 
+-- ---- run and lookup, where the body does one fixed thing: at once, where there is a coordinate
+
+abbrev pub times_code : {S : Type 0} → Nest S → Code → Code
+times_code n once = When (Two op.Lt n.lo n.hi) once
+
 -- ---- nothing: where the body does nothing no part is left
 
 abbrev pub nothing_code : Code

@@ -1,5 +1,5 @@
 //! What is proved of the steps, in both senses.
-ghost use Rattle.fin_style_point.specs.Laws.{SpikesSplit, ShiftsSplit, SwitchesSplit, LoopsSplit, NothingIsSkipped};
+ghost use Rattle.fin_style_point.specs.Laws.{SpikesSplit, ShiftsSplit, SwitchesSplit, LoopsSplit, FixedIsAtOnce, NothingIsSkipped};
 
 /// A nest's spikes may be cut at its region's end: that is two runs each, and weighs less.
 pub fn spikes_split()
@@ -20,6 +20,12 @@ pub fn switches_split()
 /// a turn counted behind it; and such a nest weighs nothing.
 pub fn loops_split()
     ensures { LoopsSplit }
+{}
+
+/// Where the body does one fixed thing along runs and lookups, code that does it at once means the nest, asked only
+/// where there is a coordinate.
+pub fn fixed_is_at_once()
+    ensures { FixedIsAtOnce }
 {}
 
 /// Code that does nothing means a nest whose body does nothing.

@@ -2,7 +2,7 @@
 //!
 //! `specs/Steps.antt` says each step as a function from a nest to its parts and to the code between them. A spike becomes
 //! two runs by a cut at its region's end; all shifts are pushed inside at once; the first switch is its first case or the others; runs
-//! and lookups are a loop over the coordinates, with each lookup a run at its coordinate; and of a nest whose body does nothing no
+//! and lookups are a loop over the coordinates, with each lookup a run at its coordinate, or code that does a fixed thing at once; and of a nest whose body does nothing no
 //! part is left.
 //!
 //! The laws say of each step, in both senses of nests: code that means the parts, with the code between them, means the
@@ -11,4 +11,6 @@
 
 mod laws;
 
-pub use laws::{loops_split, nothing_is_skipped, shifts_split, spikes_split, switches_split};
+pub use laws::{
+    fixed_is_at_once, loops_split, nothing_is_skipped, shifts_split, spikes_split, switches_split,
+};
