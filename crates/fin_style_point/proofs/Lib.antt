@@ -8,4 +8,5 @@ pub mod ForLoops
 pub mod Points
 pub mod Times
 pub mod Nothing
+pub mod Built
 pub mod Both

@@ -9,8 +9,12 @@
 //! nest; each part weighs less than the nest; and no part depends on what its code changes.
 #![tactic(auto)]
 
+mod codes;
 mod laws;
+mod reads;
 
+pub use codes::{either_code, within_code};
 pub use laws::{
     fixed_is_at_once, loops_split, nothing_is_skipped, shifts_split, spikes_split, switches_split,
 };
+pub use reads::{cut_all, held_all, unshifted_all};

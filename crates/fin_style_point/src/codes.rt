@@ -1,0 +1,52 @@
+//! The code between the parts.
+ghost use Rattle.std.specs.Prelude.{◌≡◌, ◌∷◌, [], pos, IfOk};
+ghost use Rattle.fin_base.specs.declared.terms.Op.TheVariants as op;
+
+use fin_base::Op;
+use fin_ir::{Code, IExpr};
+use sqlite_items::{Boxed, Items};
+use std::alloc::{AllocError, Global};
+
+/// The first part where the test isn't 0, and else the second one; the test's value stands in the local.
+pub fn either_code(
+    alloc: Global,
+    local: u32,
+    test: IExpr,
+    taken: Code,
+    others: Code,
+) -> Result<Code, AllocError>
+    ensures { IfOk result (λ c. c ≡ Code.Seq (Code.Assign local test ∷ Code.When (IExpr.Local local) taken
+        ∷ Code.When (IExpr.Two op.Eq (IExpr.Local local) (IExpr.Num (pos 0))) others ∷ [])) }
+{
+    let mut codes = Items::new(alloc);
+    codes.push(Code::Assign { local, value: test })?;
+    let first = when(alloc, IExpr::Local(local), taken)?;
+    codes.push(first)?;
+    let off = two(alloc, Op::Eq, IExpr::Local(local), IExpr::Num(0))?;
+    let second = when(alloc, off, others)?;
+    codes.push(second)?;
+    Ok(Code::Seq(codes))
+}
+
+/// The code, where there is a coordinate from `lo` on and before `hi`.
+pub fn within_code(alloc: Global, lo: IExpr, hi: IExpr, once: Code) -> Result<Code, AllocError>
+    ensures { IfOk result (λ c. c ≡ Code.When (IExpr.Two op.Lt lo hi) once) }
+{
+    let some = two(alloc, Op::Lt, lo, hi)?;
+    when(alloc, some, once)
+}
+
+fn when(alloc: Global, test: IExpr, body: Code) -> Result<Code, AllocError>
+    ensures { IfOk result (λ c. c ≡ Code.When test body) }
+{
+    let body = Boxed::new(alloc, body)?;
+    Ok(Code::When { test, body })
+}
+
+fn two(alloc: Global, op: Op, left: IExpr, right: IExpr) -> Result<IExpr, AllocError>
+    ensures { IfOk result (λ e. e ≡ IExpr.Two op left right) }
+{
+    let left = Boxed::new(alloc, left)?;
+    let right = Boxed::new(alloc, right)?;
+    Ok(IExpr::Two { op, left, right })
+}
