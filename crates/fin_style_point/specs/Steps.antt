@@ -107,9 +107,13 @@ first_switch (l ∷ rest) = here_or_later (alternatives l) l rest (first_switch 
 abbrev pub switch_nest : {S : Type 0} → Nest S → List Looplet → Nest S
 switch_nest n reads = record n { next = n.next + 1; reads = reads }
 
+-- the first code where the test isn't 0, and else the second one
+abbrev pub either_code : ℕ → IExpr → Code → Code → Code
+either_code local test taken others =
+    Seq (Assign local test ∷ When (Local local) taken ∷ When (Two op.Eq (Local local) (Num (pos 0))) others ∷ [])
+
 abbrev pub switch_code : {S : Type 0} → Nest S → IExpr → Code → Code → Code
-switch_code n test taken others =
-    Seq (Assign n.next test ∷ When (Local n.next) taken ∷ When (Two op.Eq (Local n.next) (Num (pos 0))) others ∷ [])
+switch_code n test taken others = either_code n.next test taken others
 
 -- ---- run and lookup: one coordinate after another, where each lookup is a run of what it is at that coordinate
 
@@ -163,13 +167,21 @@ point_nest n = record n {
   reads = map held n.reads;
 }
 
+-- each number from `lo` on and before `hi`, in the local and in the others
+abbrev pub each_code : ℕ → IExpr → IExpr → List ℕ → Code → Code
+each_code local lo hi others point = ForLoop local lo hi (Seq (hold others (Local local) ++ point ∷ []))
+
 abbrev pub for_code : {S : Type 0} → Nest S → Code → Code
-for_code n point = ForLoop n.next n.lo n.hi (Seq (hold (coordinates n.reads) (Local n.next) ++ point ∷ []))
+for_code n point = each_code n.next n.lo n.hi (coordinates n.reads) point
 
 -- ---- run and lookup, where the body does one fixed thing: at once, where there is a coordinate
 
+-- the code, where there is a number from `lo` on and before `hi`
+abbrev pub within_code : IExpr → IExpr → Code → Code
+within_code lo hi once = When (Two op.Lt lo hi) once
+
 abbrev pub times_code : {S : Type 0} → Nest S → Code → Code
-times_code n once = When (Two op.Lt n.lo n.hi) once
+times_code n once = within_code n.lo n.hi once
 
 -- ---- nothing: where the body does nothing no part is left
 

@@ -1,6 +1,6 @@
 //! The code between the parts.
-ghost use Rattle.std.specs.Prelude.{◌≡◌, ◌∷◌, [], pos, IfOk};
-ghost use Rattle.fin_base.specs.declared.terms.Op.TheVariants as op;
+ghost use Rattle.std.specs.Prelude.{◌≡◌, IfOk};
+ghost use Rattle.fin_style_point.specs.Steps.{either_code, within_code};
 
 use fin_base::Op;
 use fin_ir::{Code, IExpr};
@@ -15,8 +15,7 @@ pub fn either_code(
     taken: Code,
     others: Code,
 ) -> Result<Code, AllocError>
-    ensures { IfOk result (λ c. c ≡ Code.Seq (Code.Assign local test ∷ Code.When (IExpr.Local local) taken
-        ∷ Code.When (IExpr.Two op.Eq (IExpr.Local local) (IExpr.Num (pos 0))) others ∷ [])) }
+    ensures { IfOk result (λ c. c ≡ either_code local test taken others) }
 {
     let mut codes = Items::new(alloc);
     codes.push(Code::Assign { local, value: test })?;
@@ -30,7 +29,7 @@ pub fn either_code(
 
 /// The code, where there is a coordinate from `lo` on and before `hi`.
 pub fn within_code(alloc: Global, lo: IExpr, hi: IExpr, once: Code) -> Result<Code, AllocError>
-    ensures { IfOk result (λ c. c ≡ Code.When (IExpr.Two op.Lt lo hi) once) }
+    ensures { IfOk result (λ c. c ≡ within_code lo hi once) }
 {
     let some = two(alloc, Op::Lt, lo, hi)?;
     when(alloc, some, once)
