@@ -1,5 +1,6 @@
 //! What is proved of the steps, in both senses.
-ghost use Rattle.fin_style_point.specs.Laws.{SpikesSplit, ShiftsSplit, SwitchesSplit, LoopsSplit, FixedIsAtOnce, NothingIsSkipped};
+ghost use Rattle.fin_style_point.specs.Laws.{SpikesSplit, ShiftsSplit, SwitchesSplit};
+ghost use Rattle.fin_style_point.specs.Laws.{LoopsSplit, FixedIsAtOnce, NothingIsSkipped};
 
 /// A nest's spikes may be cut at its region's end: that is two runs each, and weighs less.
 pub fn spikes_split()
@@ -17,7 +18,7 @@ pub fn switches_split()
 {}
 
 /// A nest of runs and lookups is a loop over its coordinates, where code that means the nest of one of them is run with
-/// a turn counted behind it; and such a nest weighs nothing.
+/// a turn counted behind it; and the nest of one coordinate weighs nothing.
 pub fn loops_split()
     ensures { LoopsSplit }
 {}
