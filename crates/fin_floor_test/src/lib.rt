@@ -1,7 +1,0 @@
-//! Tests of looplets: what those of fibres, masks and shifts show at each coordinate, worked out by hand.
-#![tactic(auto)]
-
-#[cfg(test)]
-mod looks;
-#[cfg(test)]
-mod looplets;
