@@ -4,8 +4,8 @@
     tools/gate_times.py run LOG COMMAND..   runs the command (`rt ci --anew`, say) and writes the log LOG
     tools/gate_times.py table LOG           prints the log as a table for docs/GATE.md, the longest chain of crates below it
 
-While the command runs, the processor time of each process of the prover is read from /proc, twice a second. A process
-works on the crate that its words name: on its proof, on its tests (`--test`), on the empty base that its edits start from
+While the command runs, the processor time of each process of the prover that it has started is read from /proc, twice
+a second. A process works on the crate that its words name: on its proof, on its tests (`--test`), on the empty base that its edits start from
 or on an edit (in a folder of their own).
 """
 import os
@@ -34,9 +34,23 @@ def kind_of(words, folder):
     return "build" if words[1:2] == ["link"] else "proof"
 
 
-def seen():
-    """Each process of the prover: its key, crate, kind and processor seconds."""
+def below(top):
+    """The processes that the process `top` has started, and those that they have."""
+    children = {}
     for pid in filter(str.isdigit, os.listdir("/proc")):
+        stat = read(f"/proc/{pid}/stat").decode(errors="replace").rpartition(")")[2].split()
+        if len(stat) > 1:
+            children.setdefault(stat[1], []).append(pid)
+    found, next_ones = [], [str(top)]
+    while next_ones:
+        found += next_ones
+        next_ones = [child for pid in next_ones for child in children.get(pid, [])]
+    return found
+
+
+def seen(top):
+    """Each process of the prover below one: its key, crate, kind and processor seconds."""
+    for pid in below(top):
         words = read(f"/proc/{pid}/cmdline").decode(errors="replace").split("\0")
         if not words[0].endswith("/rattle") or "--crate-name" not in words[:-1]:
             continue
@@ -58,7 +72,7 @@ def run(log, command):
     start = time.time()
     child = subprocess.Popen(command)
     while child.poll() is None:
-        for key, crate, kind, seconds in seen():
+        for key, crate, kind, seconds in seen(child.pid):
             last = most.get(key, (crate, kind, 0.0))[2]
             most[key] = (crate, kind, max(last, seconds))
         time.sleep(0.5)
