@@ -1,205 +1,180 @@
 #!/usr/bin/env python3
-"""Turns a Matrix Market file into tensor text, and tensor text back. Unproved; Python's standard library alone.
+"""Turns Matrix Market and FROSTT (.tns) files into tensor text, and back. Unproved; Python's standard library alone.
 
-    tools/matrix_market.py tensor NAME LEVELS [FILE]    Matrix Market on FILE or standard input -> tensor text
-    tools/matrix_market.py matrix [FILE]                tensor text of one matrix or vector -> Matrix Market
-    tools/matrix_market.py test                         tries both on cases of its own
+    tools/matrix_market.py tensor NAME LEVELS [FILE]      Matrix Market -> tensor text
+    tools/matrix_market.py matrix [FILE]                  tensor text of a matrix or a vector -> Matrix Market
+    tools/matrix_market.py from-tns NAME LEVELS [--shape N,N,..] [FILE]      .tns -> tensor text
+    tools/matrix_market.py to-tns [FILE]                  tensor text -> .tns
+    tools/matrix_market.py test                           tries all of it on cases of its own
 
-LEVELS is `dense`, `list`, `dict`, `band` or `runs` for each of the two dimensions, apart by commas, as in `dense,list`.
-Read are `matrix coordinate` and `matrix array` with the field `integer`, or `pattern` (every entry is 1); `general`,
-`symmetric` and `skew-symmetric`. Values are words, from -2^63 to 2^63-1, and the fill is 0. Matrix Market counts from 1,
-tensors from 0. What is written is `matrix coordinate integer general`, with the entries that aren't the fill; a fill
-other than 0 has no place in the format and is refused.
+Without FILE standard input is read. LEVELS is `dense`, `list`, `dict`, `band` or `runs` for each dimension, apart by
+commas, as in `dense,list`; one level alone turns a matrix of one column or one row into a vector.
+Of Matrix Market `coordinate` and `array` are read, `integer`, `pattern` (every entry is 1) and `real` where each value is
+whole, `general`, `symmetric` and `skew-symmetric`. Values are whole, from -2^63 to 2^63-1. These files count from 1,
+tensors from 0. A .tns doesn't tell its shape: give --shape, or it is the greatest coordinates (a comment
+`# shape N N ..`, which to-tns writes, is read). The fill is 0, and a tensor with another one is refused. Of several
+tensors the first is taken, and of a job the first behind `%%`.
+
+Status: 0, or 2 with a line that says what couldn't be read, and where.
 """
 import sys
 
-from tensor_text import read_tensors
-
-SMALLEST, GREATEST = -(2 ** 63), 2 ** 63 - 1
-LEVELS = ("dense", "list", "dict", "band", "runs")
-
-
-class Refused(Exception):
-    pass
-
-
-def read_matrix(text):
-    """The shape and the entries, by coordinates from 0."""
-    lines = text.splitlines()
-    if not lines or not lines[0].startswith("%%MatrixMarket"):
-        raise Refused("the first line doesn't begin with %%MatrixMarket")
-    banner = lines[0].lower().split()
-    if len(banner) != 5 or banner[1] != "matrix":
-        raise Refused("not a matrix")
-    layout, field, symmetry = banner[2:]
-    if layout not in ("coordinate", "array") or field not in ("integer", "pattern"):
-        raise Refused(f"{layout} {field} isn't read: coordinate or array, integer or pattern")
-    if symmetry not in ("general", "symmetric", "skew-symmetric"):
-        raise Refused(f"{symmetry} isn't read")
-    rows = [line.split() for line in lines[1:] if line.strip() and not line.startswith("%")]
-    if not rows:
-        raise Refused("no line of sizes")
-    sizes = [int(word) for word in rows[0]]
-    read = read_coordinates if layout == "coordinate" else read_array
-    return (sizes[0], sizes[1]), read(sizes, rows[1:], field, symmetry)
-
-
-def read_coordinates(sizes, rows, field, symmetry):
-    if len(rows) != sizes[2]:
-        raise Refused(f"{len(rows)} entries, and {sizes[2]} are said")
-    entries = {}
-    for row in rows:
-        i, j = int(row[0]) - 1, int(row[1]) - 1
-        value = 1 if field == "pattern" else int(row[2])
-        put(entries, sizes, i, j, value)
-        mirror(entries, sizes, i, j, value, symmetry)
-    return entries
-
-
-def read_array(sizes, rows, field, symmetry):
-    if field == "pattern":
-        raise Refused("an array has values")
-    values = [int(row[0]) for row in rows]
-    # Columns one after another; of a symmetric matrix only what stands on and below the diagonal.
-    first = {"general": lambda j: 0, "symmetric": lambda j: j, "skew-symmetric": lambda j: j + 1}[symmetry]
-    places = [(i, j) for j in range(sizes[1]) for i in range(first(j), sizes[0])]
-    if len(values) != len(places):
-        raise Refused(f"{len(values)} values for {len(places)} places")
-    entries = {}
-    for (i, j), value in zip(places, values):
-        put(entries, sizes, i, j, value)
-        mirror(entries, sizes, i, j, value, symmetry)
-    return entries
-
-
-def put(entries, sizes, i, j, value):
-    if not (0 <= i < sizes[0] and 0 <= j < sizes[1]):
-        raise Refused(f"entry {i + 1} {j + 1} lies outside")
-    if not SMALLEST <= value <= GREATEST:
-        raise Refused(f"{value} is no 64-bit number")
-    if (i, j) in entries:
-        raise Refused(f"entry {i + 1} {j + 1} stands twice")
-    entries[i, j] = value
-
-
-def mirror(entries, sizes, i, j, value, symmetry):
-    if symmetry != "general" and i != j:
-        put(entries, sizes, j, i, value if symmetry == "symmetric" else -value)
-
-
-def tensor_text(name, levels, shape, entries):
-    """The canonical text of a matrix in these levels, with the fill 0."""
-    stored = {cs: v for cs, v in entries.items() if v != 0}
-    prefixes, parts = [()], []
-    for k, level in enumerate(levels):
-        kept = [keeps(level, p, k, shape, stored) for p in prefixes]
-        starts = [0]
-        for cs in kept:
-            starts.append(starts[-1] + len(cs))
-        parts += lines_of(level, k, starts, kept)
-        prefixes = [p + (i,) for p, cs in zip(prefixes, kept) for i in cs]
-    values = [stored.get(p, 0) for p in prefixes]
-    words = lambda head, numbers: " ".join([head] + [str(n) for n in numbers])
-    return "\n".join([f"tensor {name}", f"format {' '.join(levels)} element", "fill 0", words("shape", shape)]
-                     + [words(head, numbers) for head, numbers in parts] + [words("val", values), "end", ""])
-
-
-def keeps(level, prefix, k, shape, stored):
-    """The coordinates that a level keeps below a prefix."""
-    below = sorted({cs[k] for cs in stored if cs[:k] == prefix})
-    if level == "dense":
-        return list(range(shape[k]))
-    if level == "band":
-        return list(range(below[0], below[-1] + 1)) if below else []
-    if level == "runs":
-        value = lambda i: stored.get(prefix + (i,), 0)
-        return [i for i in range(shape[k]) if i + 1 == shape[k] or value(i) != value(i + 1)]
-    return below
-
-
-def lines_of(level, k, starts, kept):
-    if level == "dense":
-        return []
-    if level == "band":
-        return [(f"ptr {k}", starts), (f"start {k}", [cs[0] if cs else 0 for cs in kept])]
-    if level == "runs":
-        return [(f"ptr {k}", starts), (f"stop {k}", [i + 1 for cs in kept for i in cs])]
-    return [(f"ptr {k}", starts), (f"idx {k}", [i for cs in kept for i in cs])]
-
-
-def read_tensor(text):
-    """The levels, the shape and the entries of the first tensor of a text."""
-    tensors = read_tensors(text)
-    if not tensors:
-        raise Refused("no tensor")
-    levels, fill, shape, entries = next(iter(tensors.values()))
-    if fill != 0:
-        raise Refused("a fill other than 0 has no place in Matrix Market")
-    if len(shape) not in (1, 2):
-        raise Refused("neither a vector nor a matrix")
-    return levels, shape, entries
-
-
-def matrix_text(shape, entries):
-    rows, columns = (shape[0], 1) if len(shape) == 1 else shape
-    stored = sorted((cs if len(cs) == 2 else (cs[0], 0), v) for cs, v in entries.items() if v != 0)
-    head = ["%%MatrixMarket matrix coordinate integer general", f"{rows} {columns} {len(stored)}"]
-    return "\n".join(head + [f"{i + 1} {j + 1} {v}" for (i, j), v in stored] + [""])
+from entry_files import as_vector, matrix_text, read_matrix, read_tns, tns_text
+from tensor_text import Refused, check_name, read_any, read_levels, tensor_text
 
 
 def to_tensor(name, levels, text):
-    levels = levels.split(",")
-    if len(levels) != 2 or any(level not in LEVELS for level in levels) or levels[0] == "runs":
-        raise Refused("two levels are wanted, apart by a comma, and runs only as the second")
+    check_name(name)
+    levels = read_levels(levels)
+    if len(levels) > 2:
+        raise Refused(f"{len(levels)} levels: a Matrix Market file holds a matrix, or with one level a vector")
     shape, entries = read_matrix(text)
-    return tensor_text(name, levels, shape, entries)
+    return tensor_text(name, levels, *(as_vector(shape, entries) if len(levels) == 1 else (shape, entries)))
+
+
+def from_tns(name, levels, text, shape=None):
+    check_name(name)
+    levels = read_levels(levels)
+    return tensor_text(name, levels, *read_tns(text, shape))
+
+
+def first_tensor(text):
+    """The shape and the entries of the first tensor."""
+    _, fill, shape, entries = next(iter(read_any(text).values()))
+    if fill != 0:
+        raise Refused(f"the fill is {fill}; these files leave out zeros alone")
+    return tuple(shape), entries
 
 
 def to_matrix(text):
-    _, shape, entries = read_tensor(text)
-    return matrix_text(shape, entries)
+    return matrix_text(*first_tensor(text))
+
+
+def to_tns(text):
+    return tns_text(*first_tensor(text))
+
+
+def read_shape(words):
+    """The shape of the words `--shape N,N,..`, if they stand there, and the words without them."""
+    if "--shape" not in words:
+        return None, words
+    at = words.index("--shape")
+    numbers = words[at + 1].split(",") if len(words) > at + 1 else []
+    if not numbers or not all(number.isdecimal() for number in numbers):
+        raise Refused("behind --shape stand extents, apart by commas, as in --shape 4,5,6")
+    return tuple(map(int, numbers)), words[:at] + words[at + 2:]
+
+
+def text_of(words):
+    """What stands in the file that is named, or on standard input."""
+    try:
+        if not words:
+            return sys.stdin.buffer.read().decode()
+        with open(words[0], "rb") as file:
+            return file.read().decode()
+    except OSError as wrong:
+        raise Refused(f"{words[0]} can't be read: {wrong.strerror}")
+    except UnicodeDecodeError:
+        raise Refused(f"{words[0] if words else 'standard input'} is no text; if it is packed, unpack it first")
+
+
+GENERAL = "%%MatrixMarket matrix coordinate integer general\n% a comment\n3 4 4\n1 1 2\n1 4 -1\n2 2 7\n3 3 5\n"
+PATTERN = "%%MatrixMarket matrix coordinate pattern symmetric\n3 3 3\n2 1\n3 2\n3 3\n"
+SKEW = "%%MatrixMarket matrix array integer skew-symmetric\n3 3\n4\n0\n6\n"
+WHOLE = "%%MatrixMarket matrix coordinate real general\n2 2 2\n1 2 3.0\n2 1 -2e3\n"
+COLUMN = "%%MatrixMarket matrix coordinate integer general\n6 1 2\n3 1 4\n5 1 5\n"
+CUBE = "# shape 2 3 4\n1 1 1 5\n1 3 4 -7\n2 2 1 9\n"
+WRONG_MATRICES = {
+    "": "line 1: this doesn't begin with",
+    "3 4 4\n": "line 1: this doesn't begin with",
+    "%%MatrixMarket vector coordinate integer general\n": "line 1: wanted is",
+    WHOLE.replace("3.0", "3.5"): "line 3: 3.5 isn't whole",
+    WHOLE.replace("real", "complex"): "line 1: coordinate complex isn't read",
+    GENERAL.replace("3 4 4", "2 4 4"): "line 7: the entry 3 3 lies outside",
+    GENERAL.replace("3 4 4", "3 4"): "line 3: the line of sizes has 2 numbers",
+    GENERAL.replace("3 4 4", "3 x 4"): "line 3: 'x' is no size",
+    GENERAL.replace("3 4 4", "3 4 5"): "the line of sizes says 5 entries, and there are 4",
+    GENERAL.replace("-1", "one"): "line 5: 'one' is no number",
+    GENERAL.replace("1 4 -1", "1 1 8"): "line 5: the entry 1 1 stands twice",
+    GENERAL.replace("1 4 -1", "1 4"): "line 5: an entry is row column value",
+    GENERAL.replace("-1", "9223372036854775808"): "line 5: 9223372036854775808 is no 64-bit number",
+    PATTERN.replace("3 3 3", "3 4 3"): "line 2: a symmetric matrix is square",
+    GENERAL.split("3 4 4")[0]: "the line of sizes is missing",
+}
+WRONG_WORDS = {
+    ("for", "dense,list"): "'for' is a word of the language",
+    ("a-b", "dense,list"): "'a-b' is no name",
+    ("a" * 33, "dense,list"): "the name",
+    ("A", "dense,sparse"): "'sparse' is no level",
+    ("A", "runs,dense"): "runs stands as the last level alone",
+    ("A", "list"): "a matrix of 3 rows and 4 columns is no vector",
+    ("A", "dense,list,list"): "3 levels: a Matrix Market file",
+}
+
+
+def refusal(call, *given):
+    try:
+        call(*given)
+    except Refused as why:
+        return str(why)
+    return "nothing was refused"
 
 
 def test():
-    general = "%%MatrixMarket matrix coordinate integer general\n% a comment\n3 4 4\n1 1 2\n1 4 -1\n2 2 7\n3 3 5\n"
-    symmetric = "%%MatrixMarket matrix coordinate pattern symmetric\n3 3 3\n2 1\n3 2\n3 3\n"
-    skew = "%%MatrixMarket matrix array integer skew-symmetric\n3 3\n4\n0\n6\n"
     want = "tensor A\nformat dense list element\nfill 0\nshape 3 4\nptr 1 0 2 3 4\nidx 1 0 3 1 2\nval 2 -1 7 5\nend\n"
-    assert to_tensor("A", "dense,list", general) == want
-    for text in (general, symmetric, skew):
+    assert to_tensor("A", "dense,list", GENERAL) == want
+    assert to_tensor("x", "runs", COLUMN).endswith("shape 6\nptr 0 0 5\nstop 0 2 3 4 5 6\nval 0 4 0 5 0\nend\n")
+    assert to_tensor("x", "band", COLUMN).endswith("shape 6\nptr 0 0 3\nstart 0 2\nval 4 0 5\nend\n")
+    assert to_matrix(to_tensor("x", "list", COLUMN)) == COLUMN
+    assert read_matrix(PATTERN)[1] == {(1, 0): 1, (0, 1): 1, (2, 1): 1, (1, 2): 1, (2, 2): 1}
+    assert {at: v for at, v in read_matrix(SKEW)[1].items() if v} == {(1, 0): 4, (0, 1): -4, (2, 1): 6, (1, 2): -6}
+    for text in (GENERAL, PATTERN, SKEW, WHOLE):
         shape, entries = read_matrix(text)
-        stored = {cs: v for cs, v in entries.items() if v != 0}
+        stored = {at: v for at, v in entries.items() if v != 0}
         for outer in ("dense", "list", "dict", "band"):
-            for inner in LEVELS:
-                made = to_tensor("A", f"{outer},{inner}", text)
-                levels, back, values = read_tensor(made)
-                assert levels == [outer, inner] and tuple(back) == shape
-                assert {cs: v for cs, v in values.items() if v != 0} == stored
-                assert read_matrix(to_matrix(made)) == (shape, stored)
-    assert read_matrix(symmetric)[1] == {(1, 0): 1, (0, 1): 1, (2, 1): 1, (1, 2): 1, (2, 2): 1}
-    assert {cs: v for cs, v in read_matrix(skew)[1].items() if v} == {(1, 0): 4, (0, 1): -4, (2, 1): 6, (1, 2): -6}
-    for wrong in ("", "%%MatrixMarket matrix coordinate real general\n1 1 0\n", general.replace("3 4 4", "2 4 4")):
-        try:
-            read_matrix(wrong)
-        except Refused:
-            continue
-        raise AssertionError(wrong)
+            for inner in ("dense", "list", "dict", "band", "runs"):
+                assert read_matrix(to_matrix(to_tensor("A", f"{outer},{inner}", text))) == (shape, stored)
+    for levels in ("dense,list,list", "list,dict,band", "band,dense,runs", "dict,list,dense"):
+        assert to_tns(from_tns("T", levels, CUBE)) == CUBE
+    assert read_tns("2 2 1.0\n") == ((2, 2), {(1, 1): 1}) and read_tns("2 2 1\n", (9, 9))[0] == (9, 9)
+    for text, why in WRONG_MATRICES.items():
+        assert refusal(to_tensor, "A", "dense,list", text).startswith(why), (text, refusal(read_matrix, text))
+    for words, why in WRONG_WORDS.items():
+        assert refusal(to_tensor, *words, GENERAL).startswith(why), words
+    assert refusal(from_tns, "T", "list,list", CUBE) == "2 levels for 3 dimensions"
+    assert refusal(read_tns, "1 1 5\n1 5\n") == "line 2: 1 coordinates, and 2 dimensions"
+    assert refusal(to_tensor, "A", "dense,dense", COLUMN.replace("6 1 2", "99999999 2 2")).startswith("the dense levels")
+    assert refusal(to_matrix, want.replace("fill 0", "fill 3")).startswith("the fill is 3")
+    assert refusal(to_matrix, want.replace("val 2", "val two")).startswith("not the text of tensors")
     print("matrix_market.py: as it should be")
+
+
+def answer(words):
+    """What the words ask for, or None where they ask for nothing that there is."""
+    shape, rest = read_shape(words) if words[:1] == ["from-tns"] else (None, words)
+    if len(rest) in (3, 4) and rest[0] == "tensor":
+        return to_tensor(rest[1], rest[2], text_of(rest[3:]))
+    if len(rest) in (3, 4) and rest[0] == "from-tns":
+        return from_tns(rest[1], rest[2], text_of(rest[3:]), shape)
+    if len(rest) in (1, 2) and rest[0] in ("matrix", "to-tns"):
+        return (to_matrix if rest[0] == "matrix" else to_tns)(text_of(rest[1:]))
+    return None
 
 
 def main(words):
     if words == ["test"]:
         return test()
-    known = (len(words) in (3, 4) and words[0] == "tensor") or (len(words) in (1, 2) and words[0] == "matrix")
-    if not known:
-        sys.exit(__doc__)
-    at = 3 if words[0] == "tensor" else 1
-    text = open(words[at]).read() if len(words) > at else sys.stdin.read()
     try:
-        sys.stdout.write(to_tensor(words[1], words[2], text) if words[0] == "tensor" else to_matrix(text))
-    except (Refused, ValueError, IndexError) as wrong:
-        sys.exit(f"refused: {wrong}")
+        text = answer(words)
+    except Refused as why:
+        print(f"matrix_market.py: {why}", file=sys.stderr)
+        return 2
+    if text is None:
+        print(__doc__, file=sys.stderr)
+        return 2
+    sys.stdout.write(text)
+    return 0
 
 
 if __name__ == "__main__":
-    main(sys.argv[1:])
+    sys.exit(main(sys.argv[1:]))
