@@ -58,6 +58,8 @@ def children(level, k, rows, extent, pos):
         return [(rows["start", k][pos] + q - first, q) for q in range(first, last)]
     if level == "runs":
         stops = rows["stop", k]
+        if extent > MOST_PLACES:
+            raise Refused(f"runs over {extent} coordinates: that is too many to list them")
         begin = lambda q: stops[q - 1] if q > first else 0
         return [(i, q) for q in range(first, last) for i in range(begin(q), stops[q])]
     return [(rows["idx", k][q], q) for q in range(first, last)]
