@@ -97,9 +97,9 @@ answers a text out err status (due, is, came) = record {
       subst (Came out err status) (long_due text (IsDueThen a.budget a.mode text) due many (read_due a.budget a.mode text due other is)) came;
 }
 
-pub answers_whole : (asked : Option Asked) (source out err : Across) (status : ℕ) → Serves asked source out err status → AnswersWhole asked source out err status
-answers_whole asked source out err status serves a is text told quiet calm still =
-    elim (finished_or_not asked source out err status text told serves quiet calm still) [
+pub answers_whole : (asked : Option Asked) (source out err : Across) (Within : List ℕ → Type 0) (status : ℕ) → Serves asked source out err Within status → AnswersWhole asked source out err status
+answers_whole asked source out err Within status serves a is text told quiet calm still =
+    elim (finished_or_not asked source out err Within status text told serves quiet calm still) [
       | inl five ↦ inl five
       | inr h ↦ inr (answers a text out err status (subst (λ (o : Option Asked). Finished out err (IsDue o text) status) is h.1))
     ]

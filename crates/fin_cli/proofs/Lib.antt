@@ -4,4 +4,5 @@ pub mod Endings
 pub mod Jobs
 pub mod OneDue
 pub mod Promised
+pub mod Room
 pub mod Serving

@@ -10,7 +10,7 @@ use Rattle.fin_engine.specs.Verdict.{IsJob}
 use Rattle.fin_engine.specs.declared.job.Job.{Job}
 use Rattle.fin_tensor.specs.declared.outputs.Outputs.{Outputs}
 use Rattle.fin_cli.specs.Due.{Due, IsDue, IsDueMode, IsDuePlain, IsDueRead, IsDueRun, IsDueThen, outputs_text, reads_job, unread}
-use Rattle.fin_cli.specs.Ends.{Across, Failed, Finished, Serves, Took}
+use Rattle.fin_cli.specs.Ends.{Across, Failed, Finished, Serves, Took, Unwritten}
 use Rattle.fin_cli.specs.Promises.{AreOutputs, Completes, HasCauses, IsSilent, IsUnasked, UsesExactly, WritesExactly}
 use Rattle.fin_cli.proofs.Comings.{low_due}
 use Rattle.fin_cli.proofs.OneDue.{one_due}
@@ -56,9 +56,10 @@ read_where_written Check e = refl
 read_where_written Plain e = refl
 read_where_written Gen e = cc
 
-pub writes_exactly : (mode : Mode) (asked : Option Asked) (source out err : Across) (status : ℕ) → writes_outputs mode ≡ true → Serves asked source out err status → WritesExactly mode asked source out status
-writes_exactly mode None source out err status writes (text, reads, ends) a is asks zero = cc
-writes_exactly mode (Some asked) source out err status writes (text, reads, ends) a is asks zero =
+pub writes_exactly : (mode : Mode) (asked : Option Asked) (source out err : Across) (Within : List ℕ → Type 0) (status : ℕ)
+    → writes_outputs mode ≡ true → Serves asked source out err Within status → WritesExactly mode asked source out status
+writes_exactly mode None source out err Within status writes (text, reads, ends) a is asks zero = cc
+writes_exactly mode (Some asked) source out err Within status writes (text, reads, ends) a is asks zero =
     let small : status ≤ 2 = omega arith in
     let f = ends.finished small in
     let due = f.0 in
@@ -71,12 +72,12 @@ writes_exactly mode (Some asked) source out err status writes (text, reads, ends
     let are : AreOutputs a.budget mode w.job w.outputs = subst (λ (m : Mode). AreOutputs a.budget m w.job w.outputs) in_mode (subst (λ (x : Asked). AreOutputs x.budget asked.mode w.job w.outputs) same w.are) in
     (text, reads.told, whole.0, whole.1, w.job, w.stands, w.outputs, are, subst (Took out) w.text_is f.2.1)
 
-told_is : (before : Option (List ℕ)) (job x : List ℕ) → before ≡ Some job → IfSome before (λ bytes. x ≡ bytes) → x ≡ job
+pub told_is : (before : Option (List ℕ)) (job x : List ℕ) → before ≡ Some job → IfSome before (λ bytes. x ≡ bytes) → x ≡ job
 told_is None job x e h = cc
 told_is (Some bytes) job x e h = let same : bytes ≡ job = cc in h ∙ same
 
 -- each status is at most 2, or one of the other three
-ranked : (n : ℕ) → n ≤ 5 → (n ≤ 2) ⊎ ((n ≡ 3) ⊎ ((n ≡ 4) ⊎ (n ≡ 5)))
+pub ranked : (n : ℕ) → n ≤ 5 → (n ≤ 2) ⊎ ((n ≡ 3) ⊎ ((n ≡ 4) ⊎ (n ≡ 5)))
 ranked n h = elim (cases_lt n 3) [
   | inl low ↦ inl (omega arith)
   | inr high ↦ inr (elim (cases_eq n 3) [
@@ -85,24 +86,29 @@ ranked n h = elim (cases_lt n 3) [
   ])
 ]
 
+-- a write that failed raised a count
+cause : (source out err : Across) (Within : List ℕ → Type 0) (Is : Due → Type 0) → Unwritten source out err Within Is → Failed out ⊎ Failed err
+cause source out err Within Is unwritten = elim unwritten [ inl h ↦ inl h.0 | inr h ↦ inr h.0 ]
+
 -- where nothing failed, what is due for the text was written whole, but for want of memory
-pub finished_or_not : (asked : Option Asked) (source out err : Across) (status : ℕ) (text : List ℕ) → source.before ≡ Some text → Serves asked source out err status
+pub finished_or_not : (asked : Option Asked) (source out err : Across) (Within : List ℕ → Type 0) (status : ℕ) (text : List ℕ)
+    → source.before ≡ Some text → Serves asked source out err Within status
     → (Failed source → ⊥) → (Failed out → ⊥) → (Failed err → ⊥) → (status ≡ 5) ⊎ ((status ≤ 2) × Finished out err (IsDue asked text) status)
-finished_or_not asked source out err status text told (x, reads, ends) quiet calm still =
+finished_or_not asked source out err Within status text told (x, reads, ends) quiet calm still =
     elim (ranked status ends.small) [
       | inl small ↦ inr (small, subst (λ j. Finished out err (IsDue asked j) status) (told_is source.before text x told reads.told) (ends.finished small))
       | inr rest ↦ elim rest [
         | inl three ↦ absurd (quiet (ends.read_fault three).0)
         | inr others ↦ elim others [
-          | inl four ↦ elim (ends.write_fault four).0 [ inl h ↦ absurd (calm h) | inr h ↦ absurd (still h) ]
+          | inl four ↦ elim (cause source out err Within (IsDue asked x) (ends.write_fault four)) [ inl h ↦ absurd (calm h) | inr h ↦ absurd (still h) ]
           | inr five ↦ inl five
         ]
       ]
     ]
 
-pub completes : (asked : Option Asked) (source out err : Across) (status : ℕ) → Serves asked source out err status → Completes asked source out err status
-completes asked source out err status serves job told quiet calm still =
-    elim (finished_or_not asked source out err status job told serves quiet calm still) [
+pub completes : (asked : Option Asked) (source out err : Across) (Within : List ℕ → Type 0) (status : ℕ) → Serves asked source out err Within status → Completes asked source out err status
+completes asked source out err Within status serves job told quiet calm still =
+    elim (finished_or_not asked source out err Within status job told serves quiet calm still) [
       | inl five ↦ inl five
       | inr h ↦ inr (
         h.0,
@@ -113,8 +119,9 @@ completes asked source out err status serves job told quiet calm still =
       )
     ]
 
-pub has_causes : (asked : Option Asked) (source out err : Across) (status : ℕ) → Serves asked source out err status → HasCauses source out err status
-has_causes asked source out err status (job, reads, ends) = (λ three. (ends.read_fault three).0, λ four. (ends.write_fault four).0)
+pub has_causes : (asked : Option Asked) (source out err : Across) (Within : List ℕ → Type 0) (status : ℕ) → Serves asked source out err Within status → HasCauses source out err status
+has_causes asked source out err Within status (job, reads, ends) =
+    (λ three. (ends.read_fault three).0, λ four. cause source out err Within (IsDue asked job) (ends.write_fault four))
 
 usage_due : (asked : Option Asked) (job : List ℕ) (due : Due) → IsDue asked job due → due.status ≡ 2 → (asked ≡ None) × (due ≡ unread)
 usage_due None job due is two = (refl, is)
@@ -124,8 +131,9 @@ unread_job : (asked : Option Asked) → asked ≡ None → Rattle.fin_cli.specs.
 unread_job None e = refl
 unread_job (Some asked) e = cc
 
-pub uses_exactly : (asked : Option Asked) (source out err : Across) (status : ℕ) → Serves asked source out err status → IsUnasked asked err status → UsesExactly asked source out err status
-uses_exactly asked source out err status (job, reads, ends) unasked = (
+pub uses_exactly : (asked : Option Asked) (source out err : Across) (Within : List ℕ → Type 0) (status : ℕ)
+    → Serves asked source out err Within status → IsUnasked asked err status → UsesExactly asked source out err status
+uses_exactly asked source out err Within status (job, reads, ends) unasked = (
   λ two.
       let f = ends.finished (omega arith) in
       let u = usage_due asked job f.0 f.1 (sym f.2.0 ∙ two) in
@@ -162,8 +170,8 @@ silent_due : (asked : Option Asked) (job : List ℕ) (due : Due) → IsDue asked
 silent_due None job due h some = ap (λ d. d.out) h
 silent_due (Some asked) job due h some = mode_silent asked.budget asked.mode job due h some
 
-pub is_silent : (asked : Option Asked) (source out err : Across) (status : ℕ) → Serves asked source out err status → IsSilent out status
-is_silent asked source out err status (job, reads, ends) some few = elim (cases_eq status 3) [
+pub is_silent : (asked : Option Asked) (source out err : Across) (Within : List ℕ → Type 0) (status : ℕ) → Serves asked source out err Within status → IsSilent out status
+is_silent asked source out err Within status (job, reads, ends) some few = elim (cases_eq status 3) [
   | inl three ↦ (ends.read_fault three).1
   | inr other ↦
       let f = ends.finished (omega arith) in

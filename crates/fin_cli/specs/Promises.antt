@@ -91,7 +91,7 @@ abbrev pub IsSilent : Across → ℕ → Type 0
 IsSilent out status = 1 ≤ status → status ≤ 3 → Took out []
 
 -- All of it, for all words.
-pub record Promises (asked : Option Asked) (source out err : Across) (status : ℕ) : Type 0 where
+pub record Promises (asked : Option Asked) (source out err : Across) (Within : List ℕ → Type 0) (status : ℕ) : Type 0 where
   pub headline : WritesExactly Run asked source out status
   pub plain : WritesExactly Plain asked source out status
   pub answers : AnswersWhole asked source out err status
@@ -99,4 +99,4 @@ pub record Promises (asked : Option Asked) (source out err : Across) (status : �
   pub usage : UsesExactly asked source out err status
   pub causes : HasCauses source out err status
   pub silent : IsSilent out status
-  pub serves : Serves asked source out err status
+  pub serves : Serves asked source out err Within status

@@ -2,7 +2,7 @@
 ghost use Rattle.std.specs.Prelude.{◌≡◌, ◌⊎◌, ◌≤◌, ◌++◌, [], IfOk, string_bytes, take};
 ghost use Rattle.fin_ports.specs.Causes.{Rose};
 ghost use Rattle.fin_cli.specs.Due.{refusal_text, rule_text, usage, read_fault, write_fault, out_of_memory};
-ghost use Rattle.fin_cli.specs.Ends.{Tells, Tries, over};
+ghost use Rattle.fin_cli.specs.Ends.{FailsWithin, Tells, Tries, over};
 
 use fin_base::{Refusal, Rule};
 use fin_ports::{Failed, Sink, put_all};
@@ -19,7 +19,8 @@ pub(crate) const OUT_OF_MEMORY: &[u8] = b"out of memory\n";
 
 /// Puts the line, and answers the status; where that fails, says so.
 pub(crate) fn tell<E: Sink>(err: &mut E, line: &[u8], status: u8) -> u8
-    ensures tells { Tells (over E.taken E.faults err.old err.new) line.now status result }
+    ensures tells { Tells (over E.taken E.faults err.old err.new)
+        (FailsWithin E.taken E.faults E.Later err.old err.new) line.now status result }
     ensures later { E.Later err.old err.new }
 {
     match put_all(err, line) {

@@ -1,16 +1,15 @@
 //! The top call over ports in memory that don't fail.
-ghost use Rattle.std.specs.Prelude.{◌≡◌, ◌⊎◌, ◌+◌, ◌++◌, false, length, map, string_bytes};
+ghost use Rattle.std.specs.Prelude.{◌≡◌, ◌⊎◌, ◌++◌, false, length, map, string_bytes};
 ghost use Rattle.fin_ports.specs.Memory.{HasRoom, IsReliable, left_of};
 ghost use Rattle.fin_words.specs.Reading.{asks_workers, reading};
-ghost use Rattle.fin_cli.specs.Due.{Due, IsDue, write_fault};
+ghost use Rattle.fin_cli.specs.Due.{Due, IsDue};
 
 use crate::finch_one;
 use fin_ports::{MemSink, MemSource};
 use std::alloc::Global;
 
-/// `finch_one` over a source and sinks that no call was told to fail, with room for what is due and a byte more, and on
-/// the error output also for the line on a fault: it ends as it is due, with the status and both texts, or by want of
-/// memory.
+/// `finch_one` over a source and sinks that no call was told to fail, with just the room for what is due: it ends as it is
+/// due, with the status and both texts, or by want of memory.
 pub fn finch_in_memory(
     alloc: Global,
     words: &[String],
@@ -23,7 +22,7 @@ pub fn finch_in_memory(
     requires out { (due : Due) → IsDue (reading (map string_bytes words.now)) (left_of source.old) due
         → HasRoom out.old (length due.out) }
     requires err { (due : Due) → IsDue (reading (map string_bytes words.now)) (left_of source.old) due
-        → HasRoom err.old (length due.err + length write_fault) }
+        → HasRoom err.old (length due.err) }
     ensures due { (due : Due) → IsDue (reading (map string_bytes words.now)) (left_of source.old) due
         → (result ≡ 5) ⊎ ((result ≡ due.status) × (out.new.taken.items ≡ out.old.taken.items ++ due.out)
         × (err.new.taken.items ≡ err.old.taken.items ++ due.err)) }

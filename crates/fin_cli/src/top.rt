@@ -3,7 +3,7 @@ ghost use Rattle.std.specs.Prelude.{◌≡◌, ◌≢◌, ◌≤◌, ◌^◌, �
 ghost use Rattle.fin_ports.specs.Bytes.{most};
 ghost use Rattle.fin_words.specs.Reading.{asks_workers, reading};
 ghost use Rattle.fin_cli.specs.Due.{IsDueMode, IsDueRead, IsDueThen, reads_job};
-ghost use Rattle.fin_cli.specs.Ends.{Across, Ends, Reads, Serves, over};
+ghost use Rattle.fin_cli.specs.Ends.{Across, Ends, FailsWithin, Reads, Serves, over};
 ghost use Rattle.fin_cli.specs.Promises.{AnswersWhole, Completes, HasCauses, IsSilent, IsUnasked, Promises, UsesExactly};
 ghost use Rattle.fin_cli.specs.Promises.{WritesExactly};
 ghost use Rattle.fin_cli.specs.Stops.{Comes};
@@ -46,7 +46,8 @@ pub fn finch<R: Threads + Wait + Sync, S: Source, O: Sink, E: Sink>(
     ensures silent { IsSilent (over O.taken O.faults out.old out.new) result }
     ensures serves { Serves (reading (map string_bytes words.now))
         (over S.left S.faults source.old source.new) (over O.taken O.faults out.old out.new)
-        (over E.taken E.faults err.old err.new) result }
+        (over E.taken E.faults err.old err.new) (FailsWithin E.taken E.faults E.Later err.old err.new)
+        result }
     ensures later_source { S.Later source.old source.new }
     ensures later_out { O.Later out.old out.new }
     ensures later_err { E.Later err.old err.new }
@@ -90,7 +91,8 @@ pub fn finch_one<S: Source, O: Sink, E: Sink>(
     ensures silent { IsSilent (over O.taken O.faults out.old out.new) result }
     ensures serves { Serves (reading (map string_bytes words.now))
         (over S.left S.faults source.old source.new) (over O.taken O.faults out.old out.new)
-        (over E.taken E.faults err.old err.new) result }
+        (over E.taken E.faults err.old err.new) (FailsWithin E.taken E.faults E.Later err.old err.new)
+        result }
     ensures later_source { S.Later source.old source.new }
     ensures later_out { O.Later out.old out.new }
     ensures later_err { E.Later err.old err.new }
@@ -108,7 +110,8 @@ fn top<S: Source, O: Sink, E: Sink>(
 ) -> u8
     ensures promises { Promises (reading (map string_bytes words.now))
         (over S.left S.faults source.old source.new) (over O.taken O.faults out.old out.new)
-        (over E.taken E.faults err.old err.new) result }
+        (over E.taken E.faults err.old err.new) (FailsWithin E.taken E.faults E.Later err.old err.new)
+        result }
     ensures later_source { S.Later source.old source.new }
     ensures later_out { O.Later out.old out.new }
     ensures later_err { E.Later err.old err.new }
@@ -126,7 +129,8 @@ fn serve<S: Source, O: Sink, E: Sink>(
 ) -> u8
     ensures serves { Serves (reading (map string_bytes words.now))
         (over S.left S.faults source.old source.new) (over O.taken O.faults out.old out.new)
-        (over E.taken E.faults err.old err.new) result }
+        (over E.taken E.faults err.old err.new) (FailsWithin E.taken E.faults E.Later err.old err.new)
+        result }
     ensures unasked { IsUnasked (reading (map string_bytes words.now)) (over E.taken E.faults err.old err.new) result }
     ensures later_source { S.Later source.old source.new }
     ensures later_out { O.Later out.old out.new }
@@ -146,7 +150,8 @@ fn serve<S: Source, O: Sink, E: Sink>(
 fn report<E: Sink>(outcome: Result<Answer, Stop>, err: &mut E) -> u8
     ensures ends { (source out : Across) (budget : ℕ) (mode : Mode) (job : List ℕ)
         → Comes source out (IsDueMode budget mode job) outcome
-        → Ends source out (over E.taken E.faults err.old err.new) (IsDueMode budget mode job) result }
+        → Ends source out (over E.taken E.faults err.old err.new)
+        (FailsWithin E.taken E.faults E.Later err.old err.new) (IsDueMode budget mode job) result }
     ensures finished { (source out : Across) (budget : ℕ) (mode : Mode) (job : List ℕ)
         → Comes source out (IsDueMode budget mode job) outcome → result ≤ 2 → IsOk outcome }
     ensures later { E.Later err.old err.new }
@@ -161,7 +166,8 @@ fn report<E: Sink>(outcome: Result<Answer, Stop>, err: &mut E) -> u8
 fn report_stop<E: Sink>(stop: Stop, err: &mut E) -> u8
     ensures ends { (source out : Across) (budget : ℕ) (mode : Mode) (job : List ℕ)
         → Comes source out (IsDueMode budget mode job) (Err stop)
-        → Ends source out (over E.taken E.faults err.old err.new) (IsDueMode budget mode job) result }
+        → Ends source out (over E.taken E.faults err.old err.new)
+        (FailsWithin E.taken E.faults E.Later err.old err.new) (IsDueMode budget mode job) result }
     ensures unfinished { 3 ≤ result }
     ensures later { E.Later err.old err.new }
 {

@@ -24,11 +24,13 @@ ReadsJob view old new result = MatchResult result
     (λ v. Consumes old new (view v) × IsAtEnd new × (length (view v) ≤ most))
     (LeftBy old new)
 
--- the first bytes were put, all of them where that succeeds
+-- the first bytes were put, and some are left
+abbrev pub PutsFront : Option (List ℕ) → Option (List ℕ) → List ℕ → Type 0
+PutsFront old new bytes = (n : ℕ) × (n < length bytes) × Appends old new (take n bytes)
+
+-- all bytes were put where that succeeds, and else not all
 abbrev pub PutsAll : {E : Type 0} → Option (List ℕ) → Option (List ℕ) → Result (Unit {0}) E → List ℕ → Type 0
-PutsAll old new result bytes = MatchResult result
-    (λ _. Appends old new bytes)
-    (λ _. (n : ℕ) × Appends old new (take n bytes))
+PutsAll old new result bytes = MatchResult result (λ _. Appends old new bytes) (λ _. PutsFront old new bytes)
 
 -- one more piece of a job: some bytes, the end, or why not
 abbrev pub ReadsPiece : List ℕ → List ℕ → Option (List ℕ) → Option (List ℕ) → Result Bool JobRead → Type 0

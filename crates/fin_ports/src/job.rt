@@ -62,7 +62,7 @@ fn read_piece<S: Source>(source: &mut S, bytes: &mut Vec<u8>) -> Result<bool, Jo
     }
 }
 
-/// Puts all the bytes, or a part of them where a put fails.
+/// Puts all the bytes, or fewer where a put fails.
 pub fn put_all<K: Sink>(sink: &mut K, bytes: &[u8]) -> Result<(), Failed>
     ensures bytes { PutsAll (K.taken sink.old) (K.taken sink.new) result bytes.now }
     ensures cause { HasCause (K.faults sink.old) (K.faults sink.new) result }
@@ -75,7 +75,7 @@ pub fn put_all<K: Sink>(sink: &mut K, bytes: &[u8]) -> Result<(), Failed>
     Ok(())
 }
 
-/// Puts texts one after another, or a part of them where a put fails.
+/// Puts texts one after another, or less than all where a put fails.
 pub fn put_each<K: Sink>(sink: &mut K, texts: &[Vec<u8>]) -> Result<(), Failed>
     ensures bytes { PutsAll (K.taken sink.old) (K.taken sink.new) result (flat_map (λ text. text.items) texts.now) }
     ensures cause { HasCause (K.faults sink.old) (K.faults sink.new) result }

@@ -1,12 +1,12 @@
 -- The lines of a tensor, one after another.
-use Rattle.std.proofs.Common.{◌≡◌, ℕ, zero, suc, ◌+◌, ◌<◌, add-one, List, [], ◌∷◌, ◌++◌, take, drop, get_or, length, map, refl, sym, ap, ◌∙◌, subst, append_assoc, arith}
+use Rattle.std.proofs.Common.{◌≡◌, ℕ, zero, suc, ◌+◌, ◌<◌, add-one, List, [], ◌∷◌, ◌++◌, take, drop, get_or, length, map, refl, sym, ap, ◌∙◌, subst, append_assoc, length-append, arith}
 use Rattle.std.specs.declared.option.Option.{Option}
 use Rattle.std.specs.Fmt.{decimal}
-use Rattle.std.specs.Io.KnownBytes.{Appends}
 use Rattle.std.proofs.lemmas.List.{append-nil, take-append-drop, flat_map_more}
 use Rattle.std.proofs.lemmas.Grind.{flat_map-append}
 use Rattle.std.proofs.Math.Seq.{take-suc}
 use Rattle.fin_tensor.specs.declared.part.Part.{Part}
+use Rattle.fin_ports.specs.Bytes.{PutsFront}
 use Rattle.fin_text.specs.Numbers.{spaced_sizes}
 use Rattle.fin_text.specs.Pieces.{line_text, numbers_text}
 use Rattle.fin_text.specs.Putting.{Waits}
@@ -57,6 +57,10 @@ part_more first old new ps parts i level p e is within l before after =
     next : lines_of_parts 0 (take (suc i) parts) ≡ lines_of_parts 0 (take i parts) ++ part_lines level p
     next = parts_more p 0 parts i level short (omega (arith, l)) ∙ ap (λ q. lines_of_parts 0 (take i parts) ++ part_lines level q) same
 
+-- a line and what follows are some bytes
+pub some_text : (l after : List ℕ) → 0 < length ((l ++ 10 ∷ []) ++ after)
+some_text l after = omega (arith, length-append (l ++ 10 ∷ []) after, length-append l (10 ∷ []))
+
 -- lines to be put, up to one of them
 lines_more : (d : Line) (ls : List Line) (i : ℕ) → i < length ls → text_of_lines (map line_text (take (suc i) ls)) ≡ text_of_lines (map line_text (take i ls)) ++ (line_text (get_or ls i d) ++ 10 ∷ [])
 lines_more d (l ∷ ls) zero lt = append-nil (line_text l ++ 10 ∷ [])
@@ -72,6 +76,12 @@ lines_split (l ∷ ls) (suc i) = ap (λ t. (line_text l ++ 10 ∷ []) ++ t) (lin
 
 pub other_lines : (text : List ℕ) (ls : List Line) (i : ℕ) → text ++ text_of_lines (map line_text ls) ≡ (text ++ text_of_lines (map line_text (take i ls))) ++ text_of_lines (map line_text (drop i ls))
 other_lines text ls i = ap (λ t. text ++ t) (lines_split ls i) ∙ sym (append_assoc text (text_of_lines (map line_text (take i ls))) (text_of_lines (map line_text (drop i ls))))
+
+-- lines from one on are some bytes
+pub some_lines : (ls : List Line) (i : ℕ) → i < length ls → 0 < length (text_of_lines (map line_text (drop i ls)))
+some_lines (l ∷ ls) zero lt = some_text (line_text l) (text_of_lines (map line_text ls))
+some_lines (l ∷ ls) (suc i) lt = some_lines ls i (omega arith)
+some_lines [] i lt = absurd (omega arith)
 
 in_five : (w t h n e : List ℕ) → (((w ++ t) ++ h) ++ n) ++ e ≡ w ++ (t ++ ((h ++ n) ++ e))
 in_five w t h n e = simp append_assoc
@@ -103,8 +113,10 @@ module _ (a : Option (List ℕ)) (text : List ℕ) (ls : List Line) (i : ℕ) (l
       ∙ ap (λ t. (text ++ t) ++ text_of_lines (map line_text (drop (i + 1) ls))) next
       ∙ in_six text front l.head.items (numbers_text l.numbers) (10 ∷ []) (text_of_lines (map line_text (drop (i + 1) ls)))
 
-  pub numbers_part : (b c : Option (List ℕ)) (waiting : List ℕ) (n : ℕ) → Waits a b ((text ++ front) ++ l.head.items) waiting → Appends b c (take n (waiting ++ numbers_text l.numbers)) → (k : ℕ) × Appends a c (take k (text ++ text_of_lines (map line_text ls)))
-  numbers_part b c waiting n waits part = part_put a b c _ _ _ _ n whole (more_waits a b _ waiting (numbers_text l.numbers) _ waits refl) part
+  pub numbers_part : (b c : Option (List ℕ)) (waiting : List ℕ) → Waits a b ((text ++ front) ++ l.head.items) waiting → PutsFront b c (waiting ++ numbers_text l.numbers)
+      → PutsFront a c (text ++ text_of_lines (map line_text ls))
+  numbers_part b c waiting waits part = part_put a b c _ _ _ _ whole (more_waits a b _ waiting (numbers_text l.numbers) _ waits refl) part
 
-  pub numbers_waits : (b c : Option (List ℕ)) (waiting put : List ℕ) → Waits a b ((text ++ front) ++ l.head.items) waiting → Waits b c (waiting ++ numbers_text l.numbers) put → (k : ℕ) × Appends a c (take k (text ++ text_of_lines (map line_text ls)))
-  numbers_waits b c waiting put waits numbers = front_put a c _ _ _ _ whole (some_put a b c _ _ put (more_waits a b _ waiting (numbers_text l.numbers) _ waits refl) numbers)
+  pub numbers_waits : (b c : Option (List ℕ)) (waiting put : List ℕ) → Waits a b ((text ++ front) ++ l.head.items) waiting → Waits b c (waiting ++ numbers_text l.numbers) put
+      → PutsFront a c (text ++ text_of_lines (map line_text ls))
+  numbers_waits b c waiting put waits numbers = front_put a c _ _ _ _ whole (omega arith) (some_put a b c _ _ put (more_waits a b _ waiting (numbers_text l.numbers) _ waits refl) numbers)

@@ -1,5 +1,5 @@
 -- Texts that go to a sink through a buffer, one step after another.
-use Rattle.std.proofs.Common.{◌≡◌, ℕ, ◌+◌, ◌<◌, add-one, ℤ, pos, List, [], ◌∷◌, ◌++◌, take, drop, get_or, length, Result, Ok, Err, IsErr, MatchResult, FitsSigned, w64, to_z, of_z, sym, ap, ◌∙◌, subst, append_assoc}
+use Rattle.std.proofs.Common.{◌≡◌, ℕ, ◌+◌, ◌<◌, add-one, ℤ, pos, List, [], ◌∷◌, ◌++◌, take, drop, get_or, length, Result, Ok, Err, IsErr, MatchResult, FitsSigned, w64, to_z, of_z, sym, ap, ◌∙◌, subst, append_assoc, length-append, zero, suc, arith}
 use Rattle.std.specs.declared.option.Option.{Option}
 use Rattle.std.specs.Io.KnownBytes.{Appends}
 use Rattle.std.proofs.KnownBytes.{Appends-nil, Appends-trans}
@@ -7,7 +7,8 @@ use Rattle.std.proofs.lemmas.List.{take-append-drop, flat_map_more}
 use Rattle.std.proofs.lemmas.Int.{to_z-of_z}
 use Rattle.std.proofs.lemmas.Grind.{flat_map-append}
 use Rattle.std.proofs.Math.Seq.{take-append_seam, take-suc}
-use Rattle.fin_text.specs.Numbers.{spaced, spelled}
+use Rattle.fin_text.specs.Numbers.{spaced, spelled, words}
+use Rattle.fin_ports.specs.Bytes.{PutsFront}
 use Rattle.fin_ports.proofs.Parts.{part_of_more}
 use Rattle.fin_text.specs.Putting.{Waits}
 
@@ -23,17 +24,26 @@ module _ (a b : Option (List ℕ)) where
   pub all_put : (c : Option (List ℕ)) (text waiting : List ℕ) → Waits a b text waiting → Appends b c waiting → Appends a c text
   all_put c text waiting (put, appends, split) rest = subst (Appends a c) (sym split) (Appends-trans a b c put waiting appends rest)
 
-  pub part_put : (c : Option (List ℕ)) (text waiting tail whole : List ℕ) (n : ℕ) → whole ≡ text ++ tail → Waits a b text waiting → Appends b c (take n waiting) → (k : ℕ) × Appends a c (take k whole)
-  part_put c text waiting tail whole n is (put, appends, split) part =
-      part_of_more a b c put waiting tail whole n (is ∙ ap (λ t. t ++ tail) split ∙ append_assoc put waiting tail) appends part
+  pub part_put : (c : Option (List ℕ)) (text waiting tail whole : List ℕ) → whole ≡ text ++ tail → Waits a b text waiting → PutsFront b c waiting → PutsFront a c whole
+  part_put c text waiting tail whole is (put, appends, split) part =
+      part_of_more a b c put waiting tail whole (is ∙ ap (λ t. t ++ tail) split ∙ append_assoc put waiting tail) appends part
 
-  pub part_of_front : (text tail whole : List ℕ) (n : ℕ) → whole ≡ text ++ tail → Appends a b (take n text) → (k : ℕ) × Appends a b (take k whole)
-  part_of_front text tail whole n is part = part_of_more a a b [] text tail whole n is (Appends-nil a) part
+  pub part_of_front : (text tail whole : List ℕ) → whole ≡ text ++ tail → PutsFront a b text → PutsFront a b whole
+  part_of_front text tail whole is part = part_of_more a a b [] text tail whole is (Appends-nil a) part
 
-  pub front_put : (text waiting tail whole : List ℕ) → whole ≡ text ++ tail → Waits a b text waiting → (k : ℕ) × Appends a b (take k whole)
-  front_put text waiting tail whole is (put, appends, split) =
-      let front : whole ≡ put ++ (waiting ++ tail) = is ∙ ap (λ t. t ++ tail) split ∙ append_assoc put waiting tail in
-      (length put, subst (Appends a b) (sym (ap (take (length put)) front ∙ take-append_seam put (waiting ++ tail))) appends)
+  pub front_put : (text waiting tail whole : List ℕ) → whole ≡ text ++ tail → 0 < length tail → Waits a b text waiting → PutsFront a b whole
+  front_put text waiting tail whole is some (put, appends, split) =
+      let front : whole ≡ put ++ (waiting ++ tail) = is ∙ ap (λ t. t ++ tail) split ∙ append_assoc put waiting tail in (
+        length put,
+        omega (arith, ap length front, length-append put (waiting ++ tail), length-append waiting tail),
+        subst (Appends a b) (sym (ap (take (length put)) front ∙ take-append_seam put (waiting ++ tail))) appends,
+      )
+
+-- words from one on are some bytes
+pub some_words : {A : Type 0} (word : A → List ℕ) (vs : List A) (i : ℕ) → i < length vs → 0 < length (words word (drop i vs))
+some_words word (v ∷ vs) zero lt = omega arith
+some_words word (v ∷ vs) (suc i) lt = some_words word vs i (omega arith)
+some_words word [] i lt = absurd (omega arith)
 
 -- values behind a text, up to one of them
 

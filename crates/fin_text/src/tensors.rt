@@ -17,7 +17,7 @@ use fin_tensor::{Name, Storage};
 use itoa::Buffer;
 use std::alloc::{AllocError, Global};
 
-/// Puts the text of a tensor, or a front of it where a put fails or memory runs out.
+/// Puts the text of a tensor, or less than all of it where a put fails or memory runs out.
 pub fn write_tensor<K: Sink>(
     alloc: Global,
     sink: &mut K,

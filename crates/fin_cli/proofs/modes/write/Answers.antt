@@ -1,5 +1,6 @@
-use Rattle.std.proofs.Common.{inr, refl, subst, take}
+use Rattle.std.proofs.Common.{inr, refl, subst}
 use Rattle.std.specs.Io.KnownBytes.{Appends}
+use Rattle.fin_ports.specs.Bytes.{PutsFront}
 use Rattle.fin_cli.specs.Due.{due_outputs}
 use Rattle.fin_cli.proofs.Comings.{are_named, text_is}
 use Rattle.fin_cli.proofs.modes.write.Goals as goal
@@ -19,12 +20,12 @@ pub returns-in-Err-Fault-clause-comes : goal.returns-in-Err-Fault-clause-comes
 returns-in-Err-Fault-clause-comes g c = λ source.
     let job = c.args.job.now in let outputs = c.args.outputs.now in
     let same = text_is job outputs c.as_slice-headers.result.now c.as_slice.result.now c.as_slice-headers.ensures c.as_slice.ensures in
-    let part = c.in-Err-Fault.ensures.bytes in
-    (c.in-Err-Fault.ensures.cause c.in-Err-Fault.field-0-is, (due_outputs job outputs, refl, (part.0, subst (λ t. Appends (g.O.Sink.taken c.args.out.now) (g.O.Sink.taken c.write_outputs.new.out) (take part.0 t)) same part.1)))
+    let part = subst (PutsFront (g.O.Sink.taken c.args.out.now) (g.O.Sink.taken c.write_outputs.new.out)) same c.in-Err-Fault.ensures.bytes in
+    (c.in-Err-Fault.ensures.cause c.in-Err-Fault.field-0-is, (due_outputs job outputs, refl, part))
 
 pub returns-in-Err-Memory-clause-comes : goal.returns-in-Err-Memory-clause-comes
 returns-in-Err-Memory-clause-comes g c = λ source.
     let job = c.args.job.now in let outputs = c.args.outputs.now in
     let same = text_is job outputs c.as_slice-headers.result.now c.as_slice.result.now c.as_slice-headers.ensures c.as_slice.ensures in
-    let part = c.in-Err-Memory.ensures.bytes in
-    inr (due_outputs job outputs, refl, (part.0, subst (λ t. Appends (g.O.Sink.taken c.args.out.now) (g.O.Sink.taken c.write_outputs.new.out) (take part.0 t)) same part.1))
+    let part = subst (PutsFront (g.O.Sink.taken c.args.out.now) (g.O.Sink.taken c.write_outputs.new.out)) same c.in-Err-Memory.ensures.bytes in
+    inr (due_outputs job outputs, refl, part)

@@ -4,7 +4,7 @@ use Rattle.std.proofs.KnownBytes.{Appends-nil}
 use Rattle.fin_words.specs.Reading.{reading}
 use Rattle.fin_words.specs.declared.mode.Asked.{Asked}
 use Rattle.fin_cli.specs.Due.{IsDue, reads, unread}
-use Rattle.fin_cli.specs.Ends.{Ends, Reads, across, over}
+use Rattle.fin_cli.specs.Ends.{Ends, FailsWithin, Reads, across, over}
 use Rattle.fin_cli.proofs.Endings.{ends_told}
 use Rattle.fin_cli.proofs.Jobs.{finished_by, job_of, no_job}
 use Rattle.fin_cli.proofs.Serving.{serves_memory}
@@ -17,6 +17,7 @@ returns-in-Ok-Some-clause-serves g c =
     let source = over left faults old new in
     let out = over g.O.Sink.taken g.O.Sink.faults c.args.out.now c.outcome.new.out in
     let err = over g.E.Sink.taken g.E.Sink.faults c.args.err.now c.report.new.err in
+    let within = FailsWithin g.E.Sink.taken g.E.Sink.faults g.E.Sink.Later c.args.err.now c.report.new.err in
     let asked = c.in-Ok-Some.asked in
     let is : Some asked ≡ reading (map string_bytes c.args.words.now) = sym c.in-Ok-Some.field-0-is ∙ c.in-Ok-Some.ensures.value in
     let came = c.outcome.ensures.comes in
@@ -24,7 +25,7 @@ returns-in-Ok-Some-clause-serves g c =
       job,
       subst (λ (o : Option Asked). Reads source (reads o) job (c.report.result ≤ 2)) is
           (finished_by source (reads (Some asked)) job (IsOk c.outcome.result) (c.report.result ≤ 2) (c.report.ensures.finished source out asked.budget asked.mode job came.2) came.1),
-      subst (λ (o : Option Asked). Ends source out err (IsDue o job) c.report.result) is (c.report.ensures.ends source out asked.budget asked.mode job came.2),
+      subst (λ (o : Option Asked). Ends source out err within (IsDue o job) c.report.result) is (c.report.ensures.ends source out asked.budget asked.mode job came.2),
     )
 
 pub returns-in-Ok-None-clause-serves : goal.returns-in-Ok-None-clause-serves
@@ -34,12 +35,13 @@ returns-in-Ok-None-clause-serves g c =
     let took = g.O.Sink.taken c.args.out.now in let out_faults = g.O.Sink.faults c.args.out.now in
     let out = across took took out_faults out_faults in
     let err = over g.E.Sink.taken g.E.Sink.faults c.args.err.now c.tell.new.err in
+    let within = FailsWithin g.E.Sink.taken g.E.Sink.faults g.E.Sink.Later c.args.err.now c.tell.new.err in
     let is : None ≡ reading (map string_bytes c.args.words.now) = sym c.in-Ok-None.field-0-is ∙ c.in-Ok-None.ensures.value in
     let job = job_of left [] in (
       job,
       subst (λ (o : Option Asked). Reads source (reads o) job (c.tell.result ≤ 2)) is (no_job source (c.tell.result ≤ 2) refl),
-      subst (λ (o : Option Asked). Ends source out err (IsDue o job) c.tell.result) is
-          (ends_told source out err (IsDue None job) unread _ 2 c.tell.result refl (omega arith) refl refl (Appends-nil took) c.tell.ensures.tells),
+      subst (λ (o : Option Asked). Ends source out err within (IsDue o job) c.tell.result) is
+          (ends_told source out err within (IsDue None job) unread _ 2 c.tell.result refl (omega arith) refl refl (Appends-nil took) c.tell.ensures.tells),
     )
 
 pub returns-in-Err-clause-serves : goal.returns-in-Err-clause-serves
@@ -47,4 +49,5 @@ returns-in-Err-clause-serves g c =
     let left = g.S.Source.left c.args.source.now in let faults = g.S.Source.faults c.args.source.now in
     let took = g.O.Sink.taken c.args.out.now in let out_faults = g.O.Sink.faults c.args.out.now in
     let err = over g.E.Sink.taken g.E.Sink.faults c.args.err.now c.try_to_tell.new.err in
-    serves_memory (reading (map string_bytes c.args.words.now)) (across left left faults faults) (across took took out_faults out_faults) err refl refl c.try_to_tell.ensures.tries
+    let within = FailsWithin g.E.Sink.taken g.E.Sink.faults g.E.Sink.Later c.args.err.now c.try_to_tell.new.err in
+    serves_memory (reading (map string_bytes c.args.words.now)) (across left left faults faults) (across took took out_faults out_faults) err within refl refl c.try_to_tell.ensures.tries
