@@ -5,7 +5,7 @@ use Rattle.fin_ast.specs.declared.tree.Stmt.{Stmt, map-Stmt}
 use Rattle.fin_ast.specs.declared.tree.Stmt.TheOpen.{Stmt-F}
 use Rattle.fin_ast.specs.Value.{Numbers}
 use Rattle.fin_ast.specs.Dense.{range_of}
-use Rattle.fin_ast.proofs.Induction.{AllOf, Cases, all_by_kind}
+use Rattle.fin_ast.proofs.Induction.{AllOf, Cases, by_kind, all_by_kind}
 use Rattle.fin_stage.specs.Staged.{Run}
 use Rattle.fin_simp.specs.Numbered.{Here, behind, behind_test, past_stmt, numbered, numbered_all}
 use Rattle.fin_simp.specs.Left.{Marks}
@@ -45,7 +45,10 @@ module _ (w : World) (A : Type 0) (step : Here → Stmt-F A → A) (f : Worked �
     update = λ tensor at by value line h. ap f (at_update Worked (work_step w) tensor at by value line h) ∙ same h (Stmt-F.Update tensor at by value line) ∙ sym (at_update A step tensor at by value line h);
   }
 
-  told : (body : List Stmt) (h : Here) → map f (worked_all w body h) ≡ numbered_all A step body h
+  pub told_of : (x : Stmt) → Told x
+  told_of = by_kind Told told_cases
+
+  pub told : (body : List Stmt) (h : Here) → map f (worked_all w body h) ≡ numbered_all A step body h
   told body h = bodies body (all_by_kind Told told_cases body) h
 
 module _ (w : World) (body : List Stmt) (h : Here) (stay : ReadsStay w.setting body h) where
