@@ -1,0 +1,17 @@
+pub mod Parts
+pub mod Phases
+pub mod Divisions
+pub mod Sequences
+pub mod Walks
+pub mod Joints
+pub mod Placing
+pub mod Insides
+pub mod InsideLocals
+pub mod Loops
+pub mod Turns
+pub mod Pieces
+pub mod Steppers
+pub mod Passing
+pub mod Jumpers
+pub mod Walkers
+pub mod Both
