@@ -4,3 +4,6 @@ pub mod Laws
 pub mod Senses
 pub mod Performs
 pub mod Both
+pub mod Frames
+pub mod Courses
+pub mod Styles
