@@ -36,7 +36,11 @@ def try_rules(program, told):
     if blocks != len(jobs):
         told.append(f"RULES.md has {blocks} jobs and {len(jobs)} answers")
     for mode, words, job, line in jobs:
-        done = subprocess.run(program + [mode] + words, input=job.encode(), capture_output=True, timeout=SECONDS)
+        try:
+            done = subprocess.run(program + [mode] + words, input=job.encode(), capture_output=True, timeout=SECONDS)
+        except subprocess.TimeoutExpired:
+            told.append(f"RULES.md: expected {line}, and there was no answer in {SECONDS} s")
+            continue
         if (done.returncode, done.stdout, done.stderr) != (1, b"", line.encode() + b"\n"):
             told.append(f"RULES.md: expected {line}, got {done}")
     return f"{len(jobs)} jobs"
@@ -52,9 +56,12 @@ def console(page):
 
 def run(command, folder):
     """What a command prints, on both of its outputs, as bytes."""
-    done = subprocess.run(["bash", "-c", command], cwd=folder, stdin=subprocess.DEVNULL, stdout=subprocess.PIPE,
-                          stderr=subprocess.STDOUT, timeout=SECONDS, env={**os.environ, "PYTHONDONTWRITEBYTECODE": "1"})
-    return done.stdout
+    try:
+        return subprocess.run(["bash", "-c", command], cwd=folder, stdin=subprocess.DEVNULL, stdout=subprocess.PIPE,
+                              stderr=subprocess.STDOUT, timeout=SECONDS,
+                              env={**os.environ, "PYTHONDONTWRITEBYTECODE": "1"}).stdout
+    except subprocess.TimeoutExpired:
+        return f"no answer in {SECONDS} s".encode()
 
 
 def try_console(folder, told):
@@ -107,7 +114,8 @@ def try_links(told):
 
 def try_pictures(folder, told):
     for name, command in PICTURES.items():
-        if dots_of((ROOT / name).read_bytes()) != dots_of(run(command, folder)):
+        made = run(command, folder)
+        if not made.startswith(b"\x89PNG") or dots_of((ROOT / name).read_bytes()) != dots_of(made):
             told.append(f"{name} isn't what this makes: {command}")
     return f"{len(PICTURES)} picture"
 
