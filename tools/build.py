@@ -72,7 +72,7 @@ def build():
     seconds = proof_seconds((ROOT / "docs" / "GATE.md").read_text())
     say(f"proves and builds {len(crates)} crates, by docs/GATE.md some {minutes(sum(seconds.get(c, 60) for c in crates))} "
         "of processor time from nothing; what is proved is kept, so it may be stopped and called again; "
-        "first rt reads all sources, for a minute or two")
+        "first rt reads all sources, for some minutes")
     LOG.parent.mkdir(exist_ok=True)
     start = time.time()
     with open(CRATE / "stdin", "rb") as job, open(CRATE / "out" / "build.out", "wb") as out, open(LOG, "w") as log:
