@@ -46,6 +46,7 @@ def furnish(top):
     write(top / "docs" / "GATE.md", "| `low` | 5 | 0 | 0 |\n")
     write(top / "bin" / "rt", RT, 0o755)
     shutil.copy(ROOT / "finch", top / "finch")
+    os.symlink(top / "finch", top / "bin" / "linked")
     write(top / "tools" / "build.py", (ROOT / "tools" / "build.py").read_text())
 
 
@@ -53,11 +54,11 @@ class Tries:
     def __init__(self, top):
         self.top, self.failed = top, 0
 
-    def call(self, *words, wanted=(0, "", ()), rt=True, **settings):
+    def call(self, *words, wanted=(0, "", ()), rt=True, script="finch", **settings):
         """Calls `finch` with words and the input `job`; wanted are status, output, and parts of what it says besides."""
         without = [folder for folder in os.environ["PATH"].split(":") if not os.path.exists(f"{folder}/rt")]
         path = ":".join([str(self.top / "bin")] * rt + without)
-        done = subprocess.run([str(self.top / "finch"), *words], input="job", capture_output=True, text=True,
+        done = subprocess.run([str(self.top / script), *words], input="job", capture_output=True, text=True,
                               env={**os.environ, "PATH": path, **settings}, cwd="/")
         status, printed, said = wanted
         is_silent = bool(said) or not done.stderr
@@ -85,6 +86,7 @@ def try_all(tries):
     tries.call("--build", wanted=(1, "", ("not built", "not proved")), BREAKS="1")
     tries.call("--build", wanted=(0, "", ("2 crates", "proves low", "built in")))
     tries.call(*asked, wanted=(0, echoed, ()), rt=False)
+    tries.call(*asked, wanted=(0, echoed, ()), script="bin/linked")
     tries.call(*asked, wanted=(3, echoed, ()), STATUS="3")
     tries.call("--build", "run", "--", wanted=(0, "<run><-->job", ("built in",)))
     for name in ("crates/low/must-fail/one.edit", "crates/other/src/lib.rt", "docs/GATE.md"):
