@@ -1,11 +1,13 @@
 //! The looplet of a walked fibre.
-ghost use Rattle.std.specs.Prelude.{◌≡◌, ◌+◌, ◌<◌, ◌≤◌, ◌^◌, [], ◌∷◌, IfOk, length};
+ghost use Rattle.std.specs.Prelude.{◌≡◌, ◌+◌, ◌<◌, ◌≤◌, ◌^◌, [], ◌∷◌, IfOk, length, pos};
 ghost use Rattle.fin_ir.specs.declared.expression.IExpr.TheVariants as made;
+ghost use Rattle.fin_looplet.specs.declared.looplet.Leaf.TheVariants as shown;
+ghost use Rattle.fin_looplet.specs.declared.looplet.Looplet.TheVariants as looplet;
 ghost use Rattle.fin_unfurl.specs.Fibres.{asked, IsApart, ShowsLeaves, ShowsVarying, ShowsBreaks, IsSound, HasFewStops, OwnsTwo, DependsOnPlace};
 ghost use Rattle.fin_unfurl.specs.Walks as spec;
 
 use crate::fibre::Fibre;
-use crate::parts::{begin, cell, end, leaf, next, pick, seek, two};
+use crate::parts::{begin, cell, end, leaf, pick, seek, two};
 use fin_base::{Op, Proto};
 use fin_ir::{IExpr, Table};
 use fin_looplet::{Case, Leaf, Looplet, Phase, Walker};
@@ -132,18 +134,31 @@ fn list_walker(alloc: Global, fibre: Fibre, pos: &IExpr) -> Result<Walker, Alloc
         cursor: fibre.cursor,
         seek: place,
         stop,
-        child: Looplet::Spike {
-            body: Leaf::Fill(fibre.fill),
-            tail,
-        },
+        child: spike(fibre, tail),
     })
+}
+
+// The fill, up to one place.
+fn spike(fibre: Fibre, tail: Leaf) -> Looplet
+    ensures { result ≡ looplet.Spike (shown.Fill fibre.fill) tail }
+{
+    let body = Leaf::Fill(fibre.fill);
+    Looplet::Spike { body, tail }
 }
 
 fn list_stop(alloc: Global, fibre: Fibre, at: IExpr) -> Result<IExpr, AllocError>
     ensures { IfOk result (λ e. e ≡ spec.list_stop fibre at) }
 {
     let idx = cell(alloc, fibre, Table::Idx, at)?;
-    next(alloc, idx)
+    two(alloc, Op::Add, idx, behind())
+}
+
+// A stop stands one behind the last coordinate before it.
+fn behind() -> IExpr
+    ensures { result ≡ made.Num (pos 1) }
+{
+    let one = 1;
+    IExpr::Num(one)
 }
 
 // One after the last stored coordinate, or 0 where none is stored.
