@@ -1,19 +1,19 @@
-mod Induction
-mod Equations
-mod Literals
-mod Vanishing
+pub mod Induction
+pub mod Equations
+pub mod Literals
+pub mod Vanishing
 mod Operators
-mod Staying
-mod Values
-mod Makings
+pub mod Staying
+pub mod Values
+pub mod Makings
 mod Simplifying
 mod Agreeing
-mod Judging
-mod Worth
+pub mod Judging
+pub mod Worth
 mod Promises
 mod Sides
 mod Walking
-mod Resting
+pub mod Resting
 mod Single
 mod Rewriting
 mod Reading
@@ -21,12 +21,12 @@ mod Lasting
 mod Costing
 mod Staging
 mod Comparing
-mod Mentions
+pub mod Mentions
 mod Counting
-mod Origins
+pub mod Origins
 mod Moving
-mod Loops
+pub mod Loops
 mod Extents
 mod Singles
-mod Gaps
+pub mod Gaps
 mod Matching

@@ -1,0 +1,9 @@
+//! The run by pieces does what the run by stages does.
+//!
+//! What a run by pieces knows at a coordinate of a loop is right: a read that sees a gap gives the fill, and a mask has the
+//! value of its test.
+#![tactic(auto)]
+
+mod laws;
+
+pub use laws::{gaps_read_fill, masks_tell, readable_have_parts};
