@@ -1,2 +1,4 @@
 pub mod Gaps
 pub mod Masks
+pub mod Following
+pub mod Changing

@@ -1,3 +1,4 @@
+ghost use Rattle.fin_work.specs.Changing.{FewerChange};
 ghost use Rattle.fin_work.specs.Gaps.{GapsReadFill, ReadableHaveParts};
 ghost use Rattle.fin_work.specs.Masks.{MasksTell};
 
@@ -15,4 +16,9 @@ pub fn gaps_read_fill()
 /// A mask has the value of its test at each coordinate of its loop.
 pub fn masks_tell()
     ensures { MasksTell }
+{}
+
+/// What is left of a body changes the fewer tensors, the more is known.
+pub fn fewer_change()
+    ensures { FewerChange }
 {}

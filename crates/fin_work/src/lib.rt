@@ -6,4 +6,4 @@
 
 mod laws;
 
-pub use laws::{gaps_read_fill, masks_tell, readable_have_parts};
+pub use laws::{fewer_change, gaps_read_fill, masks_tell, readable_have_parts};
