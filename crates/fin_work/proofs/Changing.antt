@@ -115,7 +115,7 @@ module _ (t : ℕ) where
   free_within OneUpdate e tests r f = f
   free_within Other e tests r f = f
 
-  out_of_within : (k : Kind) (e : ExprRest) (tests : List Test) (r : Rest) → is_none_kind k ≡ false → Free (within_kind k e tests r) → Free r
+  pub out_of_within : (k : Kind) (e : ExprRest) (tests : List Test) (r : Rest) → is_none_kind k ≡ false → Free (within_kind k e tests r) → Free r
   out_of_within Nothing e tests r n f = cc
   out_of_within OneUpdate e tests r n f = f
   out_of_within Other e tests r n f = f

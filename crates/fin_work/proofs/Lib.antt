@@ -6,3 +6,4 @@ mod Carrying
 mod Running
 mod Pieced
 mod Changing
+mod Standing
