@@ -89,6 +89,14 @@ quiet_cases = record {
 quiet : (body : List Stmt) (h : Here) (m : Marks) → Quiet (rests body h m)
 quiet body = quiet_bodies body (all_by_kind IsQuiet quiet_cases body)
 
+-- ---- what is known inside a `let`
+pub let_marks : (var : ℕ) (value : Expr) → is_worded value ≡ true → (k : ℕ) (m m' : Marks) → KnowsWords m' → Further m m'
+    → KnowsWords (binding m' var (expr_rest value k m').literal) × Further (binding m var (expr_rest value k m).literal) (binding m' var (expr_rest value k m').literal)
+let_marks var value q k m m' w f =
+    subst (λ (o : Option ℤ). KnowsWords (binding m' var o) × Further (binding m var (expr_rest value k m).literal) (binding m' var o)) (sym (rest_literal value k m'))
+    (binding_words m' var (literal_of value k m') (literal_is_word value q k m' w) w,
+    subst (λ (o : Option ℤ). Further (binding m var o) (binding m' var (literal_of value k m'))) (sym (rest_literal value k m)) (binding_stays m m' var (literal_of value k m) (literal_of value k m') (literal_stays value q k m m' w f) f))
+
 -- ---- a tensor that isn't changed
 module _ (t : ℕ) where
   abbrev Free : Rest → Type 0
@@ -192,13 +200,6 @@ module _ (t : ℕ) where
       let now : (fails o || fails (m.tests h.test)) ≡ true = settled_fails (m.tests h.test) o ∙ ap (λ (p : Option ℤ). fails (settled_literal (m.tests h.test) p)) (sym (rest_literal test h.read m)) ∙ e in
       ap (λ (p : Option ℤ). fails (settled_literal (m'.tests h.test) p)) (rest_literal test h.read m') ∙ sym (settled_fails (m'.tests h.test) o')
       ∙ either_stays (fails o) (fails (m.tests h.test)) (fails o') (fails (m'.tests h.test)) (fails_stay o o' (literal_stays test q h.read m m' w f)) (fails_stay (m.tests h.test) (m'.tests h.test) (f.tests h.test)) now
-
-  let_marks : (var : ℕ) (value : Expr) → is_worded value ≡ true → (k : ℕ) (m m' : Marks) → KnowsWords m' → Further m m'
-      → KnowsWords (binding m' var (expr_rest value k m').literal) × Further (binding m var (expr_rest value k m).literal) (binding m' var (expr_rest value k m').literal)
-  let_marks var value q k m m' w f =
-      subst (λ (o : Option ℤ). KnowsWords (binding m' var o) × Further (binding m var (expr_rest value k m).literal) (binding m' var o)) (sym (rest_literal value k m'))
-      (binding_words m' var (literal_of value k m') (literal_is_word value q k m' w) w,
-      subst (λ (o : Option ℤ). Further (binding m var o) (binding m' var (literal_of value k m'))) (sym (rest_literal value k m)) (binding_stays m m' var (literal_of value k m) (literal_of value k m') (literal_stays value q k m m' w f) f))
 
   fewer_cases : Cases Fewer
   fewer_cases = record {

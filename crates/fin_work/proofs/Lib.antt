@@ -7,3 +7,5 @@ mod Running
 mod Pieced
 mod Changing
 mod Standing
+mod Numbering
+mod Looking
