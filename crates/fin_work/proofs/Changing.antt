@@ -23,7 +23,7 @@ use Rattle.fin_simp.proofs.Staying.{left_true, right_true, literal_is_word, lite
 use Rattle.fin_work.specs.Changing.{FewerChange}
 
 -- ---- what is nothing changes nothing
-abbrev Quiet : Rest → Type 0
+abbrev pub Quiet : Rest → Type 0
 Quiet r = is_none_kind r.kind ≡ true → r.changed ≡ []
 
 none_both : (k j : Kind) → is_none_kind (kinds k j) ≡ true → (is_none_kind k ≡ true) × (is_none_kind j ≡ true)
@@ -86,7 +86,7 @@ quiet_cases = record {
   update = λ tensor at by value line h m. quiet_by _ _ (ap (at_rest m) (at_update (Marks → Rest) rest_step tensor at by value line h)) (quiet_update at (is_identity_literal by (expr_rest value h.read m).literal) (expr_rest value h.read m));
 }
 
-quiet : (body : List Stmt) (h : Here) (m : Marks) → Quiet (rests body h m)
+pub quiet : (body : List Stmt) (h : Here) (m : Marks) → Quiet (rests body h m)
 quiet body = quiet_bodies body (all_by_kind IsQuiet quiet_cases body)
 
 -- ---- what is known inside a `let`
@@ -102,7 +102,7 @@ module _ (t : ℕ) where
   abbrev Free : Rest → Type 0
   Free r = is_in r.changed t ≡ false
 
-  free_append : (xs ys : List ℕ) → is_in (xs ++ ys) t ≡ (is_in xs t || is_in ys t)
+  pub free_append : (xs ys : List ℕ) → is_in (xs ++ ys) t ≡ (is_in xs t || is_in ys t)
   free_append [] ys = refl
   free_append (x ∷ xs) ys = ap (λ b. nat_eq t x || b) (free_append xs ys) ∙ grouped (nat_eq t x) (is_in xs t) (is_in ys t) where
     grouped : (a b c : Bool) → (a || (b || c)) ≡ ((a || b) || c)
@@ -118,7 +118,7 @@ module _ (t : ℕ) where
       let two = split (is_in a.changed t) (is_in b.changed t) (sym (free_append a.changed b.changed) ∙ e) in
       free_append a'.changed b'.changed ∙ ap (λ (c : Bool). c || is_in b'.changed t) (p two.0) ∙ q two.1
 
-  free_within : (k : Kind) (e : ExprRest) (tests : List Test) (r : Rest) → Free r → Free (within_kind k e tests r)
+  pub free_within : (k : Kind) (e : ExprRest) (tests : List Test) (r : Rest) → Free r → Free (within_kind k e tests r)
   free_within Nothing e tests r f = refl
   free_within OneUpdate e tests r f = f
   free_within Other e tests r f = f
@@ -132,15 +132,15 @@ module _ (t : ℕ) where
   free_either true r f = refl
   free_either false r f = f
 
-  free_chosen : (o : Option ℤ) (e : ExprRest) (test : Test) (r : Rest) → Free r → Free (chosen_rest o e test r)
+  pub free_chosen : (o : Option ℤ) (e : ExprRest) (test : Test) (r : Rest) → Free r → Free (chosen_rest o e test r)
   free_chosen None e test r f = free_within r.kind e (test ∷ []) r f
   free_chosen (Some n) e test r f = free_either (int_eq n (pos 0)) r f
 
-  free_let : (o : Option ℤ) (e : ExprRest) (r : Rest) → Free r → Free (let_rest o e r)
+  pub free_let : (o : Option ℤ) (e : ExprRest) (r : Rest) → Free r → Free (let_rest o e r)
   free_let None e r f = free_within r.kind e [] r f
   free_let (Some n) e r f = f
 
-  free_update : (at : List Index) (b : Bool) (e : ExprRest) → Free (updating_rest at b e)
+  pub free_update : (at : List Index) (b : Bool) (e : ExprRest) → Free (updating_rest at b e)
   free_update at true e = refl
   free_update at false e = refl
 

@@ -9,3 +9,5 @@ mod Changing
 mod Standing
 mod Numbering
 mod Looking
+mod Known
+mod Written

@@ -100,7 +100,7 @@ module _ (P : Test → Type 0) where
   abbrev Seen : Look → Type 0
   Seen l = P (as_test l)
 
-  tests_both : (xs ys : List Test) → AllTests P xs → AllTests P ys → AllTests P (xs ++ ys)
+  pub tests_both : (xs ys : List Test) → AllTests P xs → AllTests P ys → AllTests P (xs ++ ys)
   tests_both [] ys h k = k
   tests_both (x ∷ xs) ys h k = (h.0, tests_both xs ys h.1 k)
 
