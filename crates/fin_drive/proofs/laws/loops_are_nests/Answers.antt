@@ -1,0 +1,5 @@
+use Rattle.fin_drive.proofs.Parts.{loops_are_nests as law}
+use Rattle.fin_drive.proofs.laws.loops_are_nests.Goals as goal
+
+pub returns : goal.returns
+returns c = law

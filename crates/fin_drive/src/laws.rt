@@ -1,0 +1,50 @@
+//! What is proved of the nest of a loop.
+ghost use Rattle.fin_drive.specs.Watches.{ChunksAreNests, LoopsAreNests, LoopsFallApart};
+ghost use Rattle.fin_drive.specs.Bodies.{BodiesGoOn, BodiesAtPoints, BodiesAreFlagless, BodiesAreNothing, StatementsGoOn, StatementsUpdateOnce};
+
+/// A nest whose looplets show what the definition of work knows of a loop's driven reads and masks folds to what the
+/// loop does, over coordinates inside of which no chunk begins.
+pub fn chunks_are_nests()
+    ensures { ChunksAreNests }
+{}
+
+/// Over all coordinates of a loop that isn't parallel such a nest folds to the loop's run by pieces, without its entry.
+pub fn loops_are_nests()
+    ensures { LoopsAreNests }
+{}
+
+/// Where a chunk begins, a loop does what is behind after what is before.
+pub fn loops_fall_apart()
+    ensures { LoopsFallApart }
+{}
+
+/// A machine that was cut stands for what the body makes of its state, where the statements go on.
+pub fn bodies_go_on()
+    ensures { BodiesGoOn }
+{}
+
+/// Where a part begins, the body does and costs the same whether its reads vary or not.
+pub fn bodies_at_points()
+    ensures { BodiesAtPoints }
+{}
+
+/// Where the body is nowhere a single update that is the same along a piece, it does the same whether a part begins.
+pub fn bodies_are_flagless()
+    ensures { BodiesAreFlagless }
+{}
+
+/// Where nothing is left of the body by what is seen, it is nothing.
+pub fn bodies_are_nothing()
+    ensures { BodiesAreNothing }
+{}
+
+/// The statements of a program, as the definition of work runs them, take back no work and nothing that the run was
+/// asked for.
+pub fn statements_go_on()
+    ensures { StatementsGoOn }
+{}
+
+/// Where a single update is left of the statements of a program they are that update, whose own work is 1.
+pub fn statements_update_once()
+    ensures { StatementsUpdateOnce }
+{}

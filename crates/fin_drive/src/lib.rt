@@ -1,0 +1,14 @@
+//! What drives a loop, as looplets: a loop of a program as a nest.
+//!
+//! `specs/Turns.antt` says what a loop does at a coordinate by what its looplets see there. The laws say that a nest
+//! with that body, whose looplets show what the definition of work (`fin_simp`) knows, folds to the loop's run by pieces,
+//! a nest for each chunk of a parallel loop; and that the body keeps what the steps of nests ask of one, for the
+//! statements of any program. It stands on no style.
+#![tactic(auto)]
+
+mod laws;
+
+pub use laws::{
+    bodies_are_flagless, bodies_are_nothing, bodies_at_points, bodies_go_on, chunks_are_nests,
+    loops_are_nests, loops_fall_apart, statements_go_on, statements_update_once,
+};
