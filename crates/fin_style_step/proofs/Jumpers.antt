@@ -23,7 +23,7 @@ use Rattle.fin_looplet.specs.View.{Store, value, Seen}
 use Rattle.fin_looplet.specs.Sound.{Near}
 use Rattle.fin_looplet.specs.Cut.{plus, before}
 use Rattle.fin_looplet.specs.Lists.{seens, any_ends, AllSound, AnyOwns}
-use Rattle.fin_looplet.proofs.Exprs.{get, names_local, loads_local}
+use Rattle.fin_looplet.proofs.Exprs.{get, names_local, loads_local, loads_num}
 use Rattle.fin_nest.specs.Nests.{Flags, fresh, flag_at, any_counted, paid_if, Nest, Sense, views_of, at_act, at_flags, part, fold, Kept, Separate, Does, Means}
 use Rattle.fin_nest.specs.Laws.{Lawful, Onward}
 use Rattle.fin_nest.proofs.Statements.{all_append}
@@ -35,7 +35,7 @@ use Rattle.fin_style_step.proofs.Walks.{jumpers_walk, any_walks, one_counted}
 use Rattle.fin_style_step.proofs.Joints.{at_most, greatest_over, greatest_is, greatest_loads}
 use Rattle.fin_style_step.proofs.Placing.{Placed, Placing}
 use Rattle.fin_style_step.proofs.InsideLocals.{insides_owns}
-use Rattle.fin_style_step.proofs.Parts.{part_kept, new_kept}
+use Rattle.fin_style_step.proofs.Narrowing.{part_kept, new_kept}
 use Rattle.fin_style_step.proofs.Passing.{spared, skip_stands, Credit, credit}
 use Rattle.fin_style_step.proofs.Loops.{Loop, Lo, Hi, after, flags, ready, Inv, stop_of, turn_of, cursor_below, kept_no_cursor, placing, placed_back, loop_does}
 use Rattle.fin_style_step.proofs.Turns.{Turn, Joint, next, now, begun, first_placed, first_kept, begun_long, sees_kept, at_until, steady_m, sound_v, next_above, next_end, next_joint, next_reached, stands_begun, turn_after, idle_pays, ready_is, flags_are, Ran, turn_ends}
@@ -51,13 +51,15 @@ module _ {S : Type 0} (layout : Layout) (sense : Sense S) (n : Nest S) (room : n
   ws = walkers jumper n.reads
 
   abbrev joint : IExpr
-  joint = greatest (walkers jumper n.reads)
+  joint = greatest (walkers jumper n.reads) (Num (pos 0))
 
   abbrev codes : Code
   codes = Seq (jump (walkers jumper n.reads) (n.next + 1) (n.next + 2) a)
 
   joint_steady : (t : ℕ) → Loads t joint → n.steady t ≡ true
-  joint_steady t l = let w = greatest_loads t ws l in g.apart.loads t ((any_walks jumper jumpers_walk n.reads w.0 w.1.0).loads t (inr (inl w.1.1)))
+  joint_steady t l = ⊎_elim
+      (λ w. g.apart.loads t ((any_walks jumper jumpers_walk n.reads w.0 w.1.0).loads t (inr (inl w.1.1))))
+      (λ z. absurd (loads_num t (pos 0) z)) (greatest_loads t ws (Num (pos 0)) l)
 
   module _ (v : ℤ) (m : Machine) (k : Turn g joint v m) where
     abbrev J : ℤ
@@ -85,7 +87,7 @@ module _ {S : Type 0} (layout : Layout) (sense : Sense S) (n : Nest S) (room : n
     over w h = stop_over g v (sound_v g joint v m k) w h
 
     under_joint : (w : Walker) → Among w (walkers jumper n.reads) → at_most (stop_at ts m0.locals w v) J
-    under_joint w h = let e = stop_now w h in let u = ap up e in let d = ap down e in omega (arith, u, d, greatest_over ts here ws w h)
+    under_joint w h = let e = stop_now w h in let u = ap up e in let d = ap down e in omega (arith, u, d, greatest_over ts here (Num (pos 0)) ws w h)
 
     above : at_most (v +ℤ pos 1) J
     above = let w = some_walker ws some in omega (arith, over w.0 w.1, under_joint w.0 w.1)
@@ -101,9 +103,9 @@ module _ {S : Type 0} (layout : Layout) (sense : Sense S) (n : Nest S) (room : n
 
     reach : Reach
     reach = ⊎_elim
-        (λ e. let u = ap up e in let d = ap down e in absurd (omega (arith, u, d, above, sum_is_lem v (pos 1), le_out (pos 0) v v_zero)))
+        (λ e. let z = e ∙ value_num ts here (pos 0) in let u = ap up z in let d = ap down z in absurd (omega (arith, u, d, above, sum_is_lem v (pos 1), le_out (pos 0) v v_zero)))
         (λ r. record { by = r.0; among = r.1.0; stop = sym (stop_now r.0 r.1.0) ∙ sym r.1.1 })
-        (greatest_is ts here ws)
+        (greatest_is ts here (Num (pos 0)) ws)
 
     -- before its stop at v a walker's stop stays
     stays : (w : Walker) → Among w (walkers jumper n.reads) → (i : ℤ) → v ≤ℤ i → i <ℤ Hi g → i <ℤ stop_at ts m0.locals w v → stop_at ts m0.locals w i ≡ stop_at ts m0.locals w v

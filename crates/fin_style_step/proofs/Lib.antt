@@ -1,4 +1,4 @@
-pub mod Parts
+pub mod Narrowing
 pub mod Phases
 pub mod Divisions
 pub mod Sequences
@@ -15,3 +15,4 @@ pub mod Passing
 pub mod Jumpers
 pub mod Walkers
 pub mod Both
+pub mod Built

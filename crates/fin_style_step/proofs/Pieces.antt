@@ -18,7 +18,7 @@ use Rattle.fin_style_step.proofs.Walks.{any_walks}
 use Rattle.fin_style_step.proofs.Joints.{at_most}
 use Rattle.fin_style_step.proofs.Placing.{Placed, cursor_among}
 use Rattle.fin_style_step.proofs.Insides.{Between, Set, child_sees, insides_like, insides_sound}
-use Rattle.fin_style_step.proofs.Parts.{part_nest}
+use Rattle.fin_style_step.proofs.Narrowing.{part_nest}
 use Rattle.fin_style_step.proofs.Loops.{Loop, Lo, Hi, cursor_room}
 
 module _ {S : Type 0} {layout : Layout} {sense : Sense S} {n : Nest S} {kind : Looplet → Option Walker} {ts : Store} {s : S} {m0 : Machine} (g : Loop layout sense n kind ts s m0) where

@@ -33,7 +33,7 @@ use Rattle.fin_nest.proofs.Means.{unbound, near_in, with_local, assigns, compute
 use Rattle.fin_style_step.specs.Steps.{Division, first_sequence, here_nest, others_nest, divide_at, sequence_code}
 use Rattle.fin_style_step.specs.Laws.{SequenceSplits}
 use Rattle.fin_style_step.proofs.Divisions.{AllWithin, Divided, divided, all_like}
-use Rattle.fin_style_step.proofs.Parts.{Sees, separate_part}
+use Rattle.fin_style_step.proofs.Narrowing.{Sees, separate_part}
 
 module _ {S : Type 0} (layout : Layout) (sense : Sense S) (law : Lawful sense) (n : Nest S) (apart : Separate n) (on : Onward sense n.body) (room : n.next < layout.locals) (d : Division) (div : Divided n.hi n.reads d)
     (a b : Code) (mean_a : Means layout sense a (here_nest n d.here)) (mean_b : Means layout sense b (others_nest n d.others)) where

@@ -26,7 +26,7 @@ use Rattle.fin_style_step.specs.Laws.{Idle, Counted}
 use Rattle.fin_style_step.proofs.Walks.{steppers_walk, any_walks, all_counted}
 use Rattle.fin_style_step.proofs.Joints.{at_most, least_under, least_is, least_over, least_loads}
 use Rattle.fin_style_step.proofs.InsideLocals.{insides_owns}
-use Rattle.fin_style_step.proofs.Parts.{part_kept, new_kept}
+use Rattle.fin_style_step.proofs.Narrowing.{part_kept, new_kept}
 use Rattle.fin_style_step.proofs.Loops.{Loop, Lo, Hi, after, flags, ready, Inv, stop_of, turn_of, loop_does}
 use Rattle.fin_style_step.proofs.Turns.{Turn, Joint, next, now, begun, first_placed, first_kept, begun_placed, begun_long, sees_kept, at_var, at_until, steady_m, sound_v, v_hi, next_above, next_end, next_reached, stands_begun, turn_after, idle_pays, ready_is, flags_are, Ran, turn_ends}
 use Rattle.fin_style_step.proofs.Pieces.{Piece, stop_is, stop_over, piece_shows, piece_fits}

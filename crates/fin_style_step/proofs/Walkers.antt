@@ -17,7 +17,7 @@ use Rattle.fin_style_step.specs.Steps.{stepper, jumper, insides, stepper_nest, j
 use Rattle.fin_style_step.specs.Laws.{StepperSplits, JumperSplits}
 use Rattle.fin_style_step.proofs.Walks.{Kind, steppers_walk, jumpers_walk, any_walks}
 use Rattle.fin_style_step.proofs.InsideLocals.{insides_owns, insides_free, insides_loads, insides_shifts, insides_nested, insides_apart, insides_lighter, let_go}
-use Rattle.fin_style_step.proofs.Parts.{part_nest, Sees, separate_part}
+use Rattle.fin_style_step.proofs.Narrowing.{part_nest, Sees, separate_part}
 use Rattle.fin_style_step.proofs.Sequences.{region_light}
 use Rattle.fin_style_step.proofs.Steppers.{stepper_means}
 use Rattle.fin_style_step.proofs.Jumpers.{jumper_means}

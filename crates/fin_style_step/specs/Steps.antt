@@ -137,7 +137,7 @@ insides kind hi (l ∷ rest) = inside hi (kind l) l ∷ insides kind hi rest
 
 abbrev pub least : List Walker → IExpr → IExpr
 least [] hi = hi
-least (w ∷ rest) hi = Two op.Min w.stop (least rest hi)
+least (w ∷ rest) hi = least rest (Two op.Min w.stop hi)
 
 abbrev pub stepper_nest : {S : Type 0} → Nest S → Nest S
 stepper_nest n = record n {
@@ -157,9 +157,9 @@ stepper_code n part = steps_code (walkers stepper n.reads) n.next n.lo n.hi part
 
 -- ---- jumper: from one stop to the greatest one, and of what is between only the last coordinate
 
-abbrev pub greatest : List Walker → IExpr
-greatest [] = Num (pos 0)
-greatest (w ∷ rest) = Two op.Max w.stop (greatest rest)
+abbrev pub greatest : List Walker → IExpr → IExpr
+greatest [] from = from
+greatest (w ∷ rest) from = greatest rest (Two op.Max w.stop from)
 
 abbrev pub jumper_nest : {S : Type 0} → Nest S → Nest S
 jumper_nest n = record n {
@@ -176,7 +176,7 @@ jump ws until last part =
 
 abbrev pub jumps_code : List Walker → ℕ → IExpr → IExpr → Code → Code
 jumps_code ws local lo hi part =
-    Seq (place ws lo ++ StepLoop local (local + 1) lo hi (greatest ws) (Seq (jump ws (local + 1) (local + 2) part)) ∷ [])
+    Seq (place ws lo ++ StepLoop local (local + 1) lo hi (greatest ws (Num (pos 0))) (Seq (jump ws (local + 1) (local + 2) part)) ∷ [])
 
 abbrev pub jumper_code : {S : Type 0} → Nest S → Code → Code
 jumper_code n part = jumps_code (walkers jumper n.reads) n.next n.lo n.hi part

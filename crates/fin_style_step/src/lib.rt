@@ -13,6 +13,12 @@
 //! its code changes. What a part's body does is left to its code.
 #![tactic(auto)]
 
+mod codes;
+mod dividing;
+mod heads;
 mod laws;
+mod nest;
+mod walking;
 
 pub use laws::{jumpers_split, sequences_split, steppers_split};
+pub use nest::{Frame, Kind, Nest, Numbered, Parts};
