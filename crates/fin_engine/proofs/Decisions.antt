@@ -15,6 +15,7 @@ use Rattle.fin_parse.specs.Program.{StandsFor}
 use Rattle.fin_parse.specs.Totality.{StandsOrBreaks}
 use Rattle.fin_text.proofs.Totality.{reads_or_breaks}
 use Rattle.fin_text.specs.Reading.{BreaksText, IsRead}
+use Rattle.fin_parcheck.specs.Safety.{parallel_in, ways_in}
 use Rattle.fin_engine.specs.declared.job.Job.{Job}
 use Rattle.fin_engine.specs.Inputs.{Tensors, inputs_of, shapes_of, unmatched}
 use Rattle.fin_engine.specs.Laws.{HasOneVerdict, IsLexed, OneVerdict}
@@ -38,18 +39,22 @@ module _ (p : Program) (g : Tensors) (matched : unmatched p.headers g ≡ None) 
     checked = record {
       program = whole;
       dims = dims;
-      ways = record { loops = [] };
+      ways = ways_in whole;
       fits = whole_fits p.headers g (shapes_of p.headers g) whole dims refl found;
     };
     inputs = inputs_of p.headers g;
   }
 
+  by_parallel : (dims : Dims) → life_in whole ≡ None → IsInferred whole (shapes_of p.headers g) dims → order_in whole ≡ None → (o : Option Refusal) → parallel_in whole ≡ o → IsJobOrBroken p g
+  by_parallel dims life found order (Some r) e = inr (r, BreaksLater.behind whole matched completed (BreaksWhole.parallel dims life found order e))
+  by_parallel dims life found order None e = inl (
+    job_of dims found,
+    record { matched = matched; completed = completed; kept = record { life = life; extents = found; order = order; parallel = e }; ways = refl; inputs = refl },
+  )
+
   by_order : (dims : Dims) → life_in whole ≡ None → IsInferred whole (shapes_of p.headers g) dims → (o : Option Refusal) → order_in whole ≡ o → IsJobOrBroken p g
   by_order dims life found (Some r) e = inr (r, BreaksLater.behind whole matched completed (BreaksWhole.order dims life found e))
-  by_order dims life found None e = inl (
-    job_of dims found,
-    record { matched = matched; completed = completed; kept = record { life = life; extents = found; order = e }; ways = refl; inputs = refl },
-  )
+  by_order dims life found None e = by_parallel dims life found e (parallel_in whole) refl
 
   by_extents : life_in whole ≡ None → IsInferredOrBroken whole (shapes_of p.headers g) → IsJobOrBroken p g
   by_extents life (inl (dims, found)) = by_order dims life found (order_in whole) refl

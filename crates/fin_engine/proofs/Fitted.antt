@@ -32,6 +32,7 @@ use Rattle.fin_ast.specs.Kinds.{is_input}
 use Rattle.fin_ast.specs.Sizes.{first_of, number_of, shape_from, shape_of as found_shape, shapes_from}
 use Rattle.fin_ast.specs.Ties.{Dimension, Extents, Shapes, known, number_in}
 use Rattle.fin_ast.proofs.Unbroken.{first_none, second_none, unbroken}
+use Rattle.fin_parcheck.specs.Safety.{IsSafe}
 use Rattle.fin_engine.specs.declared.job.Job.{Job}
 use Rattle.fin_engine.specs.Inputs.{Tensors, tensor_named, same_level, same_format, lacking, is_header_of, straying, unmatched, given_to, storage_of, shape_of, inputs_of, shapes_of}
 use Rattle.fin_engine.specs.Verdict.{Checks, IsJob}
@@ -300,3 +301,7 @@ accepted_result text (Err fail) is = tt
 pub inputs_result : (text : List ℕ) (result : Result Job Fail) → Checks text result → IfOk result (λ job. FitProgram job.checked job.inputs)
 inputs_result text (Ok job) is = job_inputs_fit text job is
 inputs_result text (Err fail) is = tt
+
+pub safe_result : (text : List ℕ) (result : Result Job Fail) → Checks text result → IfOk result (λ job. IsSafe job.checked)
+safe_result text (Ok job) (program, given, reads, is) = record { parallel = is.kept.parallel; ways = is.ways }
+safe_result text (Err fail) is = tt

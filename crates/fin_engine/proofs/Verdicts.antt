@@ -17,6 +17,7 @@ use Rattle.fin_text.specs.Reading.{ReadsTensors}
 use Rattle.fin_text.specs.Text.{text_of_lines}
 use Rattle.fin_text.proofs.Cuts.{cut_at_one_place}
 use Rattle.fin_text.proofs.OneText.{one_reading, one_refusal as one_tensor_refusal, read_or_refused}
+use Rattle.fin_parcheck.specs.Safety.{parallel_in, ways_in}
 use Rattle.fin_engine.specs.declared.job.Job.{Job}
 use Rattle.fin_engine.specs.Cut.{IsBefore, IsCut, IsEndless}
 use Rattle.fin_engine.specs.Numbers.{told}
@@ -25,7 +26,7 @@ use Rattle.fin_engine.specs.Verdict.{Accepts, Breaks, BreaksLater, BreaksWhole, 
 use Rattle.fin_ast.specs.declared.program.Program.{Program}
 use Rattle.fin_ast.specs.declared.checked.Checked.{Checked}
 use Rattle.fin_ast.specs.declared.checked.Dims.{Dims}
-use Rattle.fin_ast.specs.declared.checked.LoopWays.{LoopWays}
+use Rattle.fin_ast.specs.declared.checked.Ways.{Ways}
 use Rattle.fin_ast.specs.OneProof.{FitHeaders-prop}
 use Rattle.fin_ast.specs.Shaped.{FitHeaders}
 use Rattle.fin_ast.specs.Infer.{IsInferred}
@@ -112,11 +113,19 @@ one_whole_breach w shapes r s (BreaksWhole.extents h b) (BreaksWhole.order d k i
 one_whole_breach w shapes r s (BreaksWhole.order d h i b) (BreaksWhole.life k) = absurd (none_or_some (life_in w) s h k)
 one_whole_breach w shapes r s (BreaksWhole.order d h i b) (BreaksWhole.extents k l) = absurd (inferred_or_broken w shapes d s i l)
 one_whole_breach w shapes r s (BreaksWhole.order d h i b) (BreaksWhole.order e k j l) = one_some (order_in w) r s b l
+one_whole_breach w shapes r s (BreaksWhole.life h) (BreaksWhole.parallel d k i o l) = absurd (none_or_some (life_in w) r k h)
+one_whole_breach w shapes r s (BreaksWhole.extents h b) (BreaksWhole.parallel d k i o l) = absurd (inferred_or_broken w shapes d r i b)
+one_whole_breach w shapes r s (BreaksWhole.order d h i b) (BreaksWhole.parallel e k j o l) = absurd (none_or_some (order_in w) r o b)
+one_whole_breach w shapes r s (BreaksWhole.parallel d h i o b) (BreaksWhole.life k) = absurd (none_or_some (life_in w) s h k)
+one_whole_breach w shapes r s (BreaksWhole.parallel d h i o b) (BreaksWhole.extents k l) = absurd (inferred_or_broken w shapes d s i l)
+one_whole_breach w shapes r s (BreaksWhole.parallel d h i o b) (BreaksWhole.order e k j l) = absurd (none_or_some (order_in w) s o l)
+one_whole_breach w shapes r s (BreaksWhole.parallel d h i o b) (BreaksWhole.parallel e k j n l) = one_some (parallel_in w) r s b l
 
 kept_or_broken : (w : Program) (shapes : Shapes) (d : Dims) (r : Refusal) → KeepsWhole w shapes d → BreaksWhole w shapes r → ⊥
 kept_or_broken w shapes d r h (BreaksWhole.life k) = none_or_some (life_in w) r h.life k
 kept_or_broken w shapes d r h (BreaksWhole.extents k b) = inferred_or_broken w shapes d r h.extents b
 kept_or_broken w shapes d r h (BreaksWhole.order e k i b) = none_or_some (order_in w) r h.order b
+kept_or_broken w shapes d r h (BreaksWhole.parallel e k i o b) = none_or_some (parallel_in w) r h.parallel b
 
 one_later_breach : (p : Program) (g : Tensors) (r s : Refusal) → BreaksLater p g r → BreaksLater p g s → r ≡ s
 one_later_breach p g r s (BreaksLater.matching h) (BreaksLater.matching k) = one_some (unmatched p.headers g) r s h k
@@ -191,14 +200,14 @@ accepted_or_not job rule line (j, (p, g, a, is)) (Breaks.no_job q h r b breaks) 
 
 -- ---- an accepted text is that of one job
 
-abbrev made : (program : Program) (dims : Dims) (loops : List LoopWays) → FitHeaders program.headers dims → Checked
-made program dims loops fits = record { program = program; dims = dims; ways = record { loops = loops }; fits = fits }
+abbrev made : (program : Program) (dims : Dims) (ways : Ways) → FitHeaders program.headers dims → Checked
+made program dims ways fits = record { program = program; dims = dims; ways = ways; fits = fits }
 
-same_checked : (a b : Checked) → a.program ≡ b.program → a.dims ≡ b.dims → a.ways.loops ≡ b.ways.loops → a ≡ b
+same_checked : (a b : Checked) → a.program ≡ b.program → a.dims ≡ b.dims → a.ways ≡ b.ways → a ≡ b
 same_checked a b p d w =
-    let base : (q : FitHeaders a.program.headers a.dims) → a ≡ made a.program a.dims a.ways.loops q = λ q. ap (made a.program a.dims a.ways.loops) (FitHeaders-prop a.program.headers a.dims a.fits q) in
-    let program = subst (λ x. (q : FitHeaders x.headers a.dims) → a ≡ made x a.dims a.ways.loops q) p base in
-    let dims = subst (λ x. (q : FitHeaders b.program.headers x) → a ≡ made b.program x a.ways.loops q) d program in
+    let base : (q : FitHeaders a.program.headers a.dims) → a ≡ made a.program a.dims a.ways q = λ q. ap (made a.program a.dims a.ways) (FitHeaders-prop a.program.headers a.dims a.fits q) in
+    let program = subst (λ x. (q : FitHeaders x.headers a.dims) → a ≡ made x a.dims a.ways q) p base in
+    let dims = subst (λ x. (q : FitHeaders b.program.headers x) → a ≡ made b.program x a.ways q) d program in
     subst (λ x. (q : FitHeaders b.program.headers b.dims) → a ≡ made b.program b.dims x q) w dims b.fits
 
 same_job : (j k : Job) → j.checked ≡ k.checked → j.inputs ≡ k.inputs → j ≡ k
@@ -209,7 +218,7 @@ one_job_of p g j k h l =
     let whole = same_whole p j.checked.program k.checked.program h.completed l.completed in
     let extents = subst (λ x. IsInferred x (shapes_of p.headers g) k.checked.dims) (sym whole) l.kept.extents in
     let dims = one_inferred j.checked.program (shapes_of p.headers g) j.checked.dims k.checked.dims h.kept.extents extents in
-    same_job j k (same_checked j.checked k.checked whole dims (h.ways ∙ sym l.ways)) (h.inputs ∙ sym l.inputs)
+    same_job j k (same_checked j.checked k.checked whole dims (h.ways ∙ ap ways_in whole ∙ sym l.ways)) (h.inputs ∙ sym l.inputs)
 
 pub one_job : (text : List ℕ) (j k : Job) → IsJob text j → IsJob text k → j ≡ k
 one_job text j k (p, g, a, h) (q, f, b, l) =

@@ -1,11 +1,12 @@
 -- The verdict on a job: the first rule that it breaks, with its line, or what it is as a job that breaks none.
-use Rattle.std.specs.Prelude.{◌≡◌, ℕ, ◌+◌, List, [], Some, None, Result, Ok, Err}
+use Rattle.std.specs.Prelude.{◌≡◌, ℕ, ◌+◌, List, Some, None, Result, Ok, Err}
 use Rattle.fin_base.specs.declared.refusal.Fail.{Fail}
 use Rattle.fin_base.specs.declared.refusal.Fail.TheVariants.{Memory, Refused}
 use Rattle.fin_base.specs.declared.refusal.Refusal.{Refusal}
 use Rattle.fin_base.specs.declared.refusal.Rule.{Rule}
 use Rattle.fin_base.specs.declared.refusal.Rule.TheVariants.{J2, S1}
 use Rattle.fin_ast.specs.declared.checked.Dims.{Dims}
+use Rattle.fin_ast.specs.declared.checked.Ways.{Ways}
 use Rattle.fin_ast.specs.declared.program.Program.{Program}
 use Rattle.fin_ast.specs.Infer.{IsFirstBreach, IsInferred}
 use Rattle.fin_ast.specs.Insertion.{completed_program}
@@ -14,6 +15,7 @@ use Rattle.fin_ast.specs.Order.{order_in}
 use Rattle.fin_ast.specs.Ties.{Shapes}
 use Rattle.fin_lex.specs.declared.token.Token.{Token}
 use Rattle.fin_lex.specs.Tokens.{AreTokens, BreaksAt}
+use Rattle.fin_parcheck.specs.Safety.{parallel_in, ways_in}
 use Rattle.fin_parse.specs.declared.trees.Text.{Text}
 use Rattle.fin_parse.specs.Program.{StandsFor}
 use Rattle.fin_parse.specs.Verdict.{IsAccepted, Verdict}
@@ -45,15 +47,18 @@ pub data BreaksWhole (whole : Program) (shapes : Shapes) (r : Refusal) : Type 0 
   life : life_in whole ≡ Some r → BreaksWhole whole shapes r
   extents : life_in whole ≡ None → IsFirstBreach whole shapes r → BreaksWhole whole shapes r
   order : (dims : Dims) → life_in whole ≡ None → IsInferred whole shapes dims → order_in whole ≡ Some r → BreaksWhole whole shapes r
+  parallel : (dims : Dims) → life_in whole ≡ None → IsInferred whole shapes dims → order_in whole ≡ None → parallel_in whole ≡ Some r → BreaksWhole whole shapes r
 
 -- a program after insertion that breaks no rule, with its extents
 pub record KeepsWhole (whole : Program) (shapes : Shapes) (dims : Dims) : Type 0 where
   pub life : life_in whole ≡ None
   pub extents : IsInferred whole shapes dims
   pub order : order_in whole ≡ None
+  pub parallel : parallel_in whole ≡ None
 
-abbrev pub ChecksWhole : Program → Shapes → Result Dims Fail → Type 0
-ChecksWhole whole shapes (Ok dims) = KeepsWhole whole shapes dims
+-- with its ways
+abbrev pub ChecksWhole : Program → Shapes → Result (Dims × Ways) Fail → Type 0
+ChecksWhole whole shapes (Ok found) = KeepsWhole whole shapes found.0 × (found.1 ≡ ways_in whole)
 ChecksWhole whole shapes (Err (Refused refusal)) = BreaksWhole whole shapes refusal
 ChecksWhole whole shapes (Err (Memory e)) = Unit {0}
 
@@ -62,12 +67,13 @@ pub data BreaksLater (program : Program) (given : Tensors) (r : Refusal) : Type 
   matching : unmatched program.headers given ≡ Some r → BreaksLater program given r
   behind : (whole : Program) → unmatched program.headers given ≡ None → IsCompletion program whole → BreaksWhole whole (shapes_of program.headers given) r → BreaksLater program given r
 
--- the job of a program with its tensors, which breaks no rule: the program after insertion, its extents, and its inputs
+-- the job of a program with its tensors, which breaks no rule: the program after insertion, its extents and ways, and
+-- its inputs
 pub record IsJobOf (program : Program) (given : Tensors) (job : Job) : Type 0 where
   pub matched : unmatched program.headers given ≡ None
   pub completed : IsCompletion program job.checked.program
   pub kept : KeepsWhole job.checked.program (shapes_of program.headers given) job.checked.dims
-  pub ways : job.checked.ways.loops ≡ []
+  pub ways : job.checked.ways ≡ ways_in job.checked.program
   pub inputs : job.inputs ≡ inputs_of program.headers given
 
 abbrev pub ChecksProgram : Program → Tensors → Result Job Fail → Type 0

@@ -2,8 +2,8 @@
 use fin_ast::Checked;
 use fin_tensor::{Seq, Storage};
 
-/// A job: its program after insertion of freeze and thaw, with its extents, and the storages of its inputs in the order
-/// of their headers. No ways are looked for so far.
+/// A job: its program after insertion of freeze and thaw, with its extents and ways, and the storages of its inputs in
+/// the order of their headers.
 #[derive(Debug, Drop)]
 pub struct Job {
     pub checked: Checked,

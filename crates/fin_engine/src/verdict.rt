@@ -1,6 +1,7 @@
 //! The verdict on a job.
 ghost use Rattle.std.specs.Prelude.{◌≡◌, ◌≤◌, length, IfOk};
 ghost use Rattle.fin_ast.specs.Accepted.{FitProgram, IsAccepted};
+ghost use Rattle.fin_parcheck.specs.Safety.{IsSafe};
 ghost use Rattle.fin_engine.specs.Verdict.{Checks, ChecksProgram, ChecksWhole};
 
 use crate::cut::cut;
@@ -12,8 +13,9 @@ use fin_base::{Fail, Refusal, Rule};
 use fin_dims::infer;
 use fin_lex::lex;
 use fin_life::{check_life, check_order, complete};
+use fin_parcheck::ways;
 use fin_parse::parse;
-use fin_tensor::{Name, Nums, Seq};
+use fin_tensor::{Name, Nums};
 use fin_text::{Given, read_tensors};
 use indexmap::IndexMap;
 use std::alloc::Global;
@@ -24,11 +26,12 @@ use std::alloc::Global;
 /// The first rule that the text breaks, with its line, in the order of the rules (`docs/LANGUAGE.md`); and want of
 /// memory.
 ///
-/// The program of a job is an accepted one, and its inputs fit that.
+/// The program of a job is an accepted one, its parallel loops are safe in their ways, and its inputs fit that.
 pub fn check(alloc: Global, text: &[u8]) -> Result<Job, Fail>
     requires short { length text.now ≤ 16777216 }
     ensures verdict { Checks text.now result }
     ensures accepted { IfOk result (λ job. IsAccepted job.checked) }
+    ensures safe { IfOk result (λ job. IsSafe job.checked) }
     ensures inputs { IfOk result (λ job. FitProgram job.checked job.inputs) }
 {
     check_text(alloc, text)
@@ -65,22 +68,24 @@ fn check_program(
     let inputs = inputs_of(alloc, program.headers.as_slice(), given)?;
     let shapes = shapes_of(alloc, program.headers.as_slice(), given)?;
     let whole = complete(alloc, program)?;
-    let dims = check_whole(alloc, &whole, shapes.as_slice())?;
+    let found = check_whole(alloc, &whole, shapes.as_slice())?;
     Ok(Job {
         checked: Checked {
             program: whole,
-            dims,
-            ways: Ways {
-                loops: Seq::new(alloc),
-            },
+            dims: found.0,
+            ways: found.1,
         },
         inputs,
     })
 }
 
-/// The extents of a program after insertion, which breaks no rule on the life of tensors, on extents, and on the
-/// order of updates.
-fn check_whole(alloc: Global, whole: &Program, shapes: &[Option<Nums>]) -> Result<Dims, Fail>
+/// The extents and ways of a program after insertion, which breaks no rule on the life of tensors, on extents, on the
+/// order of updates, and on parallel loops.
+fn check_whole(
+    alloc: Global,
+    whole: &Program,
+    shapes: &[Option<Nums>],
+) -> Result<(Dims, Ways), Fail>
     requires shapes { length shapes.now ≡ length whole.now.headers }
     ensures verdict { ChecksWhole whole.now shapes.now result }
 {
@@ -91,5 +96,8 @@ fn check_whole(alloc: Global, whole: &Program, shapes: &[Option<Nums>]) -> Resul
     if let Err(refusal) = check_order(whole) {
         return Err(Fail::Refused(refusal));
     }
-    Ok(dims)
+    match ways(alloc, whole) {
+        Ok(ways) => Ok((dims, ways)),
+        Err(fail) => Err(fail),
+    }
 }

@@ -14,19 +14,19 @@ later : (program whole : Program) (given : Tensors) (shapes : Shapes) (fail : Fa
 later program whole given shapes (Refused r) matched completed is breaks = BreaksLater.behind whole matched completed (subst (λ s. ChecksWhole whole s (Err (Refused r))) is breaks)
 later program whole given shapes (Memory e) matched completed is breaks = tt
 
-pub returns-in_err-dims : goal.returns-in_err-dims
-returns-in_err-dims c =
-    let fail = c.in_err-dims.field-0.0 in
+pub returns-in_err-found : goal.returns-in_err-found
+returns-in_err-found c =
+    let fail = c.in_err-found.field-0.0 in
     let given = c.args.given.now.entries in
     let whole = c.in_ok-whole.whole in
-    let is : c.from_residual-in_err-dims.result ≡ Err fail = search rules in
+    let is : c.from_residual-in_err-found.result ≡ Err fail = search rules in
     let matched : unmatched c.args.program.headers given ≡ None = ap (λ hs. unmatched hs given) (sym c.as_slice.ensures) ∙ sym c.unmatched.ensures.first ∙ c.in_default.is in
     let completed : IsCompletion c.args.program whole = record { headers = c.in_ok-whole.ensures.headers; body = c.in_ok-whole.ensures.body; last = c.in_ok-whole.ensures.last } in
     let shapes = c.as_slice-4.ensures.value ∙ c.in_ok-shapes.ensures.value ∙ ap (λ hs. shapes_of hs given) c.as_slice-3.ensures in
-    record { verdict = subst (λ r. ChecksProgram c.args.program given r) (sym is) (later c.args.program whole given c.as_slice-4.result.now fail matched completed shapes c.in_err-dims.ensures.verdict) }
+    record { verdict = subst (λ r. ChecksProgram c.args.program given r) (sym is) (later c.args.program whole given c.as_slice-4.result.now fail matched completed shapes c.in_err-found.ensures.verdict) }
 
 pub invariant_of-result : goal.invariant_of-result
 invariant_of-result c =
     let given = c.args.given.now.entries in
     let shapes = c.as_slice-4.ensures.value ∙ c.in_ok-shapes.ensures.value ∙ ap (λ hs. shapes_of hs given) c.as_slice-3.ensures in
-    record { fits = whole_fits c.args.program.headers given c.as_slice-4.result.now c.in_ok-whole.whole c.in_ok-dims.dims shapes c.in_ok-dims.ensures.verdict.extents }
+    record { fits = whole_fits c.args.program.headers given c.as_slice-4.result.now c.in_ok-whole.whole c.in_ok-found.found.0 shapes c.in_ok-found.ensures.verdict.0.extents }
