@@ -9,6 +9,8 @@ mod examples;
 #[cfg(test)]
 mod lives;
 #[cfg(test)]
+mod parallel;
+#[cfg(test)]
 mod ports;
 #[cfg(test)]
 mod refusals;
