@@ -11,3 +11,4 @@ mod Numbering
 mod Looking
 mod Known
 mod Written
+mod Coordinates

@@ -28,7 +28,7 @@ use Rattle.fin_simp.specs.Left.{Marks, binding, fails, as_expr, left_of}
 use Rattle.fin_simp.specs.Remaining.{literal_of, settled_literal, test_literal, nothing_step, is_nothing, are_nothing}
 use Rattle.fin_simp.specs.Rest.{Access, ExprRest, Test, Rest, is_none_kind, nothing, no_expr, within_kind, chosen_rest, let_rest, test_rest, expr_rest, rest_step, rest_of}
 use Rattle.fin_simp.specs.Wording.{KnowsWords, StaysIn, Further}
-use Rattle.fin_simp.specs.Work.{World, Driven, Entered, Worked, work_step, is_in, driven_at, driven_by, gap_among, sight_of, marks_at, rests_in, enter, entry_of, turn, turns, is_fixed, costing, first_share, ends_after, all_of, marks_within, inside, literal_in, chosen, bound, done}
+use Rattle.fin_simp.specs.Work.{World, Context, Driven, Entered, Worked, work_step, is_in, driven_at, driven_by, gap_among, sight_of, marks_at, rests_in, enter, entry_of, turn, turns, is_fixed, costing, first_share, ends_after, all_of, marks_within, inside, literal_in, chosen, bound, done}
 use Rattle.fin_simp.specs.Sights.{Sight, driven_index}
 use Rattle.fin_simp.specs.Moving.{worked_all}
 use Rattle.fin_simp.proofs.Equations.{at_block, at_loop, at_cond, at_bind, at_declare, at_freeze, at_thaw, at_update}
@@ -81,9 +81,9 @@ module _ (w : World) (fills : (t : ℕ) → IsWord (fill_of w.setting t)) where
   all_filled vars r var changed [] = tt
   all_filled vars r var changed (a ∷ reads) = one_filled vars r changed a (driven_index var a.at) _ (all_filled vars r var changed reads)
 
-  pub words_at : (m m' : Marks) (var : ℕ) (par : Bool) (body : List Worked) (vars : Numbers) (r : Run) (c : ℕ) → KnowsWords m' → KnowsWords (marks_at (enter w (Some m) var par body vars r) vars m' c)
-  words_at m m' var par body vars r c k = record {
-    reads = λ j. or_word (m'.reads j) _ (k.reads j) (gap_word (driven_by w vars r var (rests_in (Some m) body)) _ j (all_filled vars r var (rests_in (Some m) body).changed (rests_in (Some m) body).reads));
+  pub words_at : (ctx : Context) (m' : Marks) (var : ℕ) (par : Bool) (body : List Worked) (vars : Numbers) (r : Run) (c : ℕ) → KnowsWords m' → KnowsWords (marks_at (enter w ctx var par body vars r) vars m' c)
+  words_at ctx m' var par body vars r c k = record {
+    reads = λ j. or_word (m'.reads j) _ (k.reads j) (gap_word (driven_by w vars r var (rests_in ctx body)) _ j (all_filled vars r var (rests_in ctx body).changed (rests_in ctx body).reads));
     vars = k.vars;
   }
 
@@ -215,7 +215,7 @@ module _ (t : ℕ) where
 
         at_turn : (c : ℕ) (r : Run) → Keeps r (all_of (worked_all w body h) (Some (known c)) (slice_set vars var (pos c)) r)
         at_turn c r =
-            let words = words_at w fills (binding m var None) (binding m var None) var par (worked_all w body h) vars r0 c (binding_words m var None tt k) in
+            let words = words_at w fills (Some (binding m var None)) (binding m var None) var par (worked_all w body h) vars r0 c (binding_words m var None tt k) in
             all_of_keeps body all q h (known c) words (fewer_changed t body q h (binding m var None) (known c) words (further_at loop vars (binding m var None) c) free) (slice_set vars var (pos c)) r
 
         turn_keeps : (begins : Bool) (c : ℕ) (r : Run) → Keeps r (one begins c r)
