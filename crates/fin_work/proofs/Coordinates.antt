@@ -185,10 +185,10 @@ module _ (c : Checked) (inputs : List Storage) (fit : FitProgram c inputs) (fill
     ToldBy t = (later : Numbers) (ts : Tensors) → SeesWords later ts → is_worded (look_at all_seen t.test).expr ≡ true → KnowsWords (look_at all_seen t.test).marks
         → right_expr (look_at all_seen t.test).expr (look_at all_seen t.test).read (look_at all_seen t.test).marks later ts ≡ true → value_of t.expr later ts ≡ value_of (look_at all_seen t.test).expr later ts
 
-    record Entry (r : Rest) : Type 0 where
-      covers : (t : ℕ) → is_in r.changed t ≡ false → is_in (changed_by body h m) t ≡ false
-      reads : Matches T r.reads
-      tests : AllTests ToldBy r.tests
+    pub record Entry (r : Rest) : Type 0 where
+      pub covers : (t : ℕ) → is_in r.changed t ≡ false → is_in (changed_by body h m) t ≡ false
+      pub reads : Matches T r.reads
+      pub tests : AllTests ToldBy r.tests
 
     told_seen : (l : Look) → look_at all_seen l.test ≡ l → (x : Expr) → ((later : Numbers) (ts : Tensors) → SeesWords later ts → is_worded l.expr ≡ true → KnowsWords l.marks → right_expr l.expr l.read l.marks later ts ≡ true → value_of x later ts ≡ value_of l.expr later ts)
         → ToldBy (record { test = l.test; expr = x })
@@ -212,7 +212,7 @@ module _ (c : Checked) (inputs : List Storage) (fit : FitProgram c inputs) (fill
           (λ l is. told_seen l is (as_expr (left_of l.expr l.read l.marks)) (λ later ts sees word words rights. left_same later ts sees l.expr word l.read l.marks words rights)) all_seen (all_looks_found body h m));
         })
 
-    entered : Entry seen_rest
+    pub entered : Entry seen_rest
     entered = entry_by ctx refl
 
     -- ---- the reads that the loop drives

@@ -12,3 +12,4 @@ mod Looking
 mod Known
 mod Written
 mod Coordinates
+mod Holding
