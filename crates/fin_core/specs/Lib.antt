@@ -1,0 +1,5 @@
+pub mod Effects
+pub mod Interleaving
+pub mod Cores
+pub mod Events
+pub mod Laws
