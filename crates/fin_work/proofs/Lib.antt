@@ -13,3 +13,4 @@ mod Known
 mod Written
 mod Coordinates
 mod Holding
+mod Stepping
