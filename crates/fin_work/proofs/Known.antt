@@ -5,6 +5,7 @@ use Rattle.std.specs.List.{list_all}
 use Rattle.std.specs.Ordering.{int_eq}
 use Rattle.std.proofs.lemmas.Int.{ints}
 use Rattle.fin_base.specs.declared.terms.Op.{Op}
+use Rattle.fin_base.specs.Words.{IsWord}
 use Rattle.fin_tensor.specs.TensorFunction.{TensorFunction}
 use Rattle.fin_ast.specs.declared.tree.Index.{Index}
 use Rattle.fin_ast.specs.declared.tree.Expr.{Expr}
@@ -82,6 +83,9 @@ agrees_by (Some n) z h = same_int n z h
 module _ (vars : Numbers) (ts : Tensors) (sees : SeesWords vars ts) (x : Expr) (worded : is_worded x ≡ true) (k : ℕ) (m : Marks) (words : KnowsWords m) (rights : right_expr x k m vars ts ≡ true) where
   pub left_same : value_of (as_expr (left_of x k m)) vars ts ≡ value_of x vars ts
   left_same = left_value vars ts sees x worded k m words ∙ right_value m vars vars (known_sides m vars) ts x k rights
+
+  pub value_word : IsWord (value_of x vars ts)
+  value_word = subst IsWord (right_value m vars vars (known_sides m vars) ts x k rights) (marked_is_word vars ts sees x worded k m words)
 
   pub literal_right : IsRight (literal_of x k m) (value_of x vars ts)
   literal_right = subst (λ (o : Option ℤ). IsRight o (value_of x vars ts)) (sym (literal_is x k m)) (by (left_of x k m) left_same) where
