@@ -79,6 +79,6 @@ pub record Carries (w : World) (I : Carried) (L : Looping) : Type 0 where
       → I (Some m) (s.Loop var range par body line last ∷ xs) h vars r r' → NothingAt w m var par body h vars r' c
   pub turn : (ctx : Context) (var : ℕ) (body : List Stmt) (h : Here) (vars : Numbers) (e : Entered) (c : ℕ) (r r' : Run) → L ctx var body h vars e c r r' → Follows r r' → (range_of w.setting var).0 ≤ c → c < (range_of w.setting var).1
       → I (Some (marks_at e vars (marks_within (inside ctx var None)) c)) body h (slice_set vars var (pos c)) r r'
-  pub onward : (ctx : Context) (var : ℕ) (body : List Stmt) (h : Here) (vars : Numbers) (e : Entered) (c : ℕ) (r r' : Run) (begins : Bool) → L ctx var body h vars e c r r' → Follows r r'
+  pub onward : (ctx : Context) (var : ℕ) (body : List Stmt) (h : Here) (vars : Numbers) (e : Entered) (c : ℕ) (r r' : Run) (begins : Bool) → L ctx var body h vars e c r r' → Follows r r' → (range_of w.setting var).0 ≤ c → c < (range_of w.setting var).1
       → regular (turned w var body vars c r) ≡ true → Follows (turned w var body vars c r) (pieced_turn w ctx body h vars e begins c r')
       → L ctx var body h vars e (c + 1) (turned w var body vars c r) (pieced_turn w ctx body h vars e begins c r')

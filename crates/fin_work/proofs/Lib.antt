@@ -14,3 +14,4 @@ mod Written
 mod Coordinates
 mod Holding
 mod Stepping
+mod Turning

@@ -446,7 +446,7 @@ module _ (w : World) (I : Carried) (L : Looping) (carries : Carries w I L) where
         let next = by_turn c r in
         let before = regular_before next (by_stages_from n (c + 1) next) (repeated_goes_on n (c + 1) var (braced (stage_all set' body)) (braced_goes_on (stage_all set' body) (all_go_on set' body)) vars next) g in
         let one = one_turn c begins r r' l f low (omega (arith, high)) before in
-        turns_follow n (c + 1) (ends_after loop vars c) next (by_piece begins c r') (omega (arith, low)) (omega (arith, high)) (carries.onward ctx var body h vars loop c r r' begins l f before one) one g
+        turns_follow n (c + 1) (ends_after loop vars c) next (by_piece begins c r') (omega (arith, low)) (omega (arith, high)) (carries.onward ctx var body h vars loop c r r' begins l f low (omega (arith, high)) before one) one g
 
     -- where nothing is left at any coordinate, nothing is done
     turns_rest : (n c : ℕ) (begins : Bool) (r' : Run) → ((k : ℕ) → is_none_kind (rest_at k).kind ≡ true) → by_pieces_from n begins c r' ≡ r'

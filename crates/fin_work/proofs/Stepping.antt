@@ -53,7 +53,7 @@ use Rattle.fin_work.proofs.Looking.{Look, looks_of, looks, AllLooks, looks_first
 use Rattle.fin_work.proofs.Numbering.{AllReads, texts, reads_first, reads_second}
 use Rattle.fin_work.proofs.Standing.{frozen_of, piece_keeps}
 
-split_free : (t : ℕ) (xs ys : List ℕ) → is_in (xs ++ ys) t ≡ false → (is_in xs t ≡ false) × (is_in ys t ≡ false)
+pub split_free : (t : ℕ) (xs ys : List ℕ) → is_in (xs ++ ys) t ≡ false → (is_in xs t ≡ false) × (is_in ys t ≡ false)
 split_free t xs ys e = by (is_in xs t) (sym (free_append t xs ys) ∙ e) where
   by : (a : Bool) → (a || is_in ys t) ≡ false → (a ≡ false) × (is_in ys t ≡ false)
   by true e = cc
@@ -72,11 +72,11 @@ module _ (c : Checked) (inputs : List Storage) (fit : FitProgram c inputs) (word
   abbrev Match : Access → Type 0
   Match a = T a.read ≡ (a.tensor, a.at)
 
-  same_readable : (t : ℕ) (r n : Run) → frozen_of t n ≡ frozen_of t r → tensors_of set n t ≡ tensors_of set r t
+  pub same_readable : (t : ℕ) (r n : Run) → frozen_of t n ≡ frozen_of t r → tensors_of set n t ≡ tensors_of set r t
   same_readable t r n e = ap (option_or (made_at set.given t)) e
 
   -- ---- where the run is the same but for work
-  known_same : (xs : List Stmt) (h : Here) (m : Marks) (loops : List ℕ) (n : ℕ) (vars : Numbers) (r r' : Run) → r'.stages ≡ r.stages → Known w T xs h m loops n vars r → Known w T xs h m loops n vars r'
+  pub known_same : (xs : List Stmt) (h : Here) (m : Marks) (loops : List ℕ) (n : ℕ) (vars : Numbers) (r r' : Run) → r'.stages ≡ r.stages → Known w T xs h m loops n vars r → Known w T xs h m loops n vars r'
   known_same xs h m loops n vars r r' e k = record {
     words = k.words;
     numbers = k.numbers;
@@ -85,7 +85,7 @@ module _ (c : Checked) (inputs : List Storage) (fit : FitProgram c inputs) (word
     tests = k.tests;
   }
 
-  held_work : (ctx : Context) (xs : List Stmt) (h : Here) (vars : Numbers) (r r' n n' : Run) → H ctx xs h vars r r' → SameDone r n → SameDone r' n' → H ctx xs h vars n n'
+  pub held_work : (ctx : Context) (xs : List Stmt) (h : Here) (vars : Numbers) (r r' n n' : Run) → H ctx xs h vars r r' → SameDone r n → SameDone r' n' → H ctx xs h vars n n'
   held_work ctx xs h vars r r' n n' i a b = record {
     sc = i.sc; next = i.next; named = i.named; counts = i.counts; enough = i.enough; below = i.below; worded = i.worded; numbers = i.numbers;
     fits = subst (StagesFit set) (sym a.stages) i.fits;
@@ -94,7 +94,7 @@ module _ (c : Checked) (inputs : List Storage) (fit : FitProgram c inputs) (word
     known = known_same xs h (marks_within ctx) i.sc.loops i.next vars r' n' b.stages i.known;
   }
 
-  held_good : (ctx : Context) (xs : List Stmt) (h : Here) (vars : Numbers) (r r' : Run) → H ctx xs h vars r r' → (t : ℕ) → IfSome (function_in (stage_at r.stages t)) IsGood
+  pub held_good : (ctx : Context) (xs : List Stmt) (h : Here) (vars : Numbers) (r r' : Run) → H ctx xs h vars r r' → (t : ℕ) → IfSome (function_in (stage_at r.stages t)) IsGood
   held_good ctx xs h vars r r' i t = by (function_in (stage_at r.stages t)) (i.good t) where
     by : (o : Option TensorFunction) → IfSome o IsWordTensor → IfSome o IsGood
     by None g = tt
@@ -122,7 +122,7 @@ module _ (c : Checked) (inputs : List Storage) (fit : FitProgram c inputs) (word
           (looks_second (TestRight m n vars) (looks_of x h m) (looks xs (past_stmt x h) m) k.tests);
     }
 
-    held_next : (ctx : Context) → H ctx (x ∷ xs) h vars r r' → H ctx xs (past_stmt x h) vars (stage_of set x vars r) ((worked_of w x h).run ctx vars r')
+    pub held_next : (ctx : Context) → H ctx (x ∷ xs) h vars r r' → H ctx xs (past_stmt x h) vars (stage_of set x vars r) ((worked_of w x h).run ctx vars r')
     held_next ctx i =
         let two = counts_split i.next (bindings_of x) (bindings_of_all xs) i.counts in
         let long = length-append (bindings_of x) (bindings_of_all xs) in
@@ -163,7 +163,7 @@ module _ (c : Checked) (inputs : List Storage) (fit : FitProgram c inputs) (word
       tests = subst (AllLooks (TestRight m n vars)) (looks_block m h body line last) (looks_first (TestRight m n vars) (looks_of x h m) (looks xs (past_stmt x h) m) k.tests);
     }
 
-    held_block : (ctx : Context) → H ctx (x ∷ xs) h vars r r' → H ctx body h vars r r'
+    pub held_block : (ctx : Context) → H ctx (x ∷ xs) h vars r r' → H ctx body h vars r r'
     held_block ctx i =
         let bound = node.of_block (List ℕ) bindings_step body line last in
         let two = counts_split i.next (bindings_of x) (bindings_of_all xs) i.counts in
@@ -209,7 +209,7 @@ module _ (c : Checked) (inputs : List Storage) (fit : FitProgram c inputs) (word
           right_here c inputs fit wordy T (tested ∷ xs) h (marks_within ctx) i.sc i.next vars r r' i.known i.fits f test (left (is_named_expr test i.sc) (are_named body i.sc) cond_named) can h.read
           (reads_first Match (reads_of test h.read) (texts body inner).reads cond_matches)
 
-    held_test : (m : Marks) → H (Some m) (tested ∷ xs) h vars r r' → Follows r r' → can_read test (tensors_of set r) ≡ true → IsRightTest (test_literal test h m) truth
+    pub held_test : (m : Marks) → H (Some m) (tested ∷ xs) h vars r r' → Follows r r' → can_read test (tensors_of set r) ≡ true → IsRightTest (test_literal test h m) truth
     held_test m i f can = test_right (m.tests h.test) (literal_of test h.read m) truth literal (mark (m.tests h.test) refl) where
       rights : right_expr test h.read m vars (tensors_of set r) ≡ true
       rights = test_rights (Some m) i f can
@@ -244,7 +244,7 @@ module _ (c : Checked) (inputs : List Storage) (fit : FitProgram c inputs) (word
       tests = (subst (AllLooks (TestRight m i.next vars)) (looks_cond m h test body line last) (looks_first (TestRight m i.next vars) (looks_of tested h m) (looks xs (past_stmt tested h) m) i.known.tests)).1;
     }
 
-    held_cond : (ctx : Context) → H ctx (tested ∷ xs) h vars r r' → Follows r r' → can_read test (tensors_of set r) ≡ true → int_eq truth (pos 0) ≡ false → H ctx body inner vars r r'
+    pub held_cond : (ctx : Context) → H ctx (tested ∷ xs) h vars r r' → Follows r r' → can_read test (tensors_of set r) ≡ true → int_eq truth (pos 0) ≡ false → H ctx body inner vars r r'
     held_cond ctx i f can e =
         let bound = node.of_cond (List ℕ) bindings_step test body line last in
         let two = counts_split i.next (bindings_of tested) (bindings_of_all xs) i.counts in
@@ -269,7 +269,7 @@ module _ (c : Checked) (inputs : List Storage) (fit : FitProgram c inputs) (word
     abbrev put : Stmt
     put = s.Update u at by value line
 
-    held_update : (m : Marks) → H (Some m) (put ∷ xs) h vars r r' → Follows r r' → can_read value (tensors_of set r) ≡ true → IsRight (literal_of value h.read m) (value_of value vars (tensors_of set r))
+    pub held_update : (m : Marks) → H (Some m) (put ∷ xs) h vars r r' → Follows r r' → can_read value (tensors_of set r) ≡ true → IsRight (literal_of value h.read m) (value_of value vars (tensors_of set r))
     held_update m i f can =
         let names = sym (ap (by_scope i.sc) (node.of_update (Scope → Bool) scope.stmt_step u at by value line)) ∙ left (is_named put i.sc) (are_named xs i.sc) i.named in
         let word = sym (node.of_update Bool worded_stmt_step u at by value line) ∙ left (is_worded_stmt put) (all_hold (map is_worded_stmt xs)) i.worded in
@@ -278,7 +278,7 @@ module _ (c : Checked) (inputs : List Storage) (fit : FitProgram c inputs) (word
         literal_right vars (tensors_of set r) (sees c inputs fit wordy T vars r i.numbers i.good) value word h.read m i.known.words rights
 
   -- ---- a `let`
-  equal : (a b : ℕ) → (a == b) ≡ true → a ≡ b
+  pub equal : (a b : ℕ) → (a == b) ≡ true → a ≡ b
   equal a b e = grind (arith, nat_tests)
 
   module _ (var : ℕ) (value : Expr) (body : List Stmt) (line last : ℕ) (xs : List Stmt) (h : Here) (vars : Numbers) (r r' : Run) where
@@ -327,7 +327,7 @@ module _ (c : Checked) (inputs : List Storage) (fit : FitProgram c inputs) (word
       outer_numbers : (later : Numbers) → Below (i.next + 1) vars' later → Below i.next vars later
       outer_numbers later b k lt = b k (omega (arith, lt)) ∙ get_or-set_other vars var k v (pos 0) (λ e. omega (arith, lt, e, var_is))
 
-    held_value : (m : Marks) → H (Some m) (let_of ∷ xs) h vars r r' → Follows r r' → can_read value (tensors_of set r) ≡ true → IsRight (literal_of value h.read m) v
+    pub held_value : (m : Marks) → H (Some m) (let_of ∷ xs) h vars r r' → Follows r r' → can_read value (tensors_of set r) ≡ true → IsRight (literal_of value h.read m) v
     held_value m i f can = literal_right vars (tensors_of set r) (sees c inputs fit wordy T vars r i.numbers i.good) value (let_word (Some m) i) h.read m i.known.words (value_rights (Some m) i f can)
 
     known_bind : (ctx : Context) (i : H ctx (let_of ∷ xs) h vars r r') → Follows r r' → can_read value (tensors_of set r) ≡ true
@@ -364,7 +364,7 @@ module _ (c : Checked) (inputs : List Storage) (fit : FitProgram c inputs) (word
       free_by k true e q = let lt = i.below k q in absurd (let same : k ≡ var = grind (arith, nat_tests, e) in omega (arith, lt, same, var_is (Some m) i))
       free_by k false e q = i.known.free k q
 
-    held_bind : (ctx : Context) → H ctx (let_of ∷ xs) h vars r r' → Follows r r' → can_read value (tensors_of set r) ≡ true → H (inside ctx var (literal_in ctx (literal_of value h.read))) body after vars' r r'
+    pub held_bind : (ctx : Context) → H ctx (let_of ∷ xs) h vars r r' → Follows r r' → can_read value (tensors_of set r) ≡ true → H (inside ctx var (literal_in ctx (literal_of value h.read))) body after vars' r r'
     held_bind ctx i f can = record {
       sc = within_let i.sc var;
       next = i.next + 1;
