@@ -15,3 +15,4 @@ mod Coordinates
 mod Holding
 mod Stepping
 mod Turning
+mod Soundness

@@ -147,3 +147,99 @@ module _ (c : Checked) (inputs : List Storage) (fit : FitProgram c inputs) (word
 
     keeps : (t : ℕ) → is_in (changed_by body h (around ctx var)) t ≡ false → tensors_of set (pieced_turn w ctx body h vars e begins k r') t ≡ tensors_of set r' t
     keeps t f = same_readable c inputs fit wordy T t r' (pieced_turn w ctx body h vars e begins k r') (subst (λ (z : Entered). frozen_of t (pieced_turn w ctx body h vars z begins k r') ≡ frozen_of t r') (sym l.loop_is) (keeps_by t f))
+
+  -- ---- the entry
+  module _ (var : ℕ) (range : Option (ℕ × ℕ)) (par : Bool) (body : List Stmt) (line last : ℕ) (xs : List Stmt) (h : Here) (vars : Numbers) (r r' : Run) where
+    abbrev loop_of : Stmt
+    loop_of = s.Loop var range par body line last
+
+    abbrev at_rest : Marks → (Marks → Rest) → Rest
+    at_rest m f = f m
+
+    loop_worded : all_hold (map is_worded_stmt (loop_of ∷ xs)) ≡ true → all_hold (map is_worded_stmt body) ≡ true
+    loop_worded e = sym (node.of_loop Bool worded_stmt_step var range par body line last) ∙ left (is_worded_stmt loop_of) (all_hold (map is_worded_stmt xs)) e
+
+    hidden : (b : Bool) (o : Option ℤ) → b ≡ true → (if b then None else o) ≡ None
+    hidden true o e = refl
+    hidden false o e = cc
+
+    same_eq : (n : ℕ) → nat_eq n n ≡ true
+    same_eq n = grind (arith, nat_tests)
+
+    unnamed_by : (ctx : Context) → (around ctx var).vars var ≡ None
+    unnamed_by None = refl
+    unnamed_by (Some m) = hidden (nat_eq var var) (m.vars var) (same_eq var)
+
+    known_enter : (ctx : Context) (i : H ctx (loop_of ∷ xs) h vars r r') → var ≡ i.next → Known w T body h (around ctx var) i.sc.loops var vars r'
+    known_enter None i e = nothing_right w T body h i.sc.loops var vars r'
+    known_enter (Some m) i e = record {
+      words = binding_words m var None tt i.known.words;
+      numbers = λ k. number_by (nat_eq k var) (m.vars k) k (i.known.numbers k);
+      free = λ k q. free_by (nat_eq k var) (m.vars k) (i.known.free k q);
+      reads = reads_part c inputs fit wordy T (loop_of ∷ xs) body h h m (binding m var None) i.sc.loops i.next var vars vars r' r' i.known (λ j. refl) (λ later b k lt. b k (omega (arith, lt, e)))
+          (λ t f.
+              let inner = rests body h (binding m var None) in
+              let kept = subst (λ (z : Rest). is_in z.changed t ≡ false) (ap (at_rest m) (at_loop (Marks → Rest) rest_step var range par body line last h)) (split_free t (rest_of loop_of h m).changed (rests xs (past_stmt loop_of h) m).changed f).0 in
+              (within_back t inner no_expr [] (quiet body h (binding m var None)) kept, refl));
+      tests = tests_part c inputs fit wordy T m i.next var vars vars (λ later b k lt. b k (omega (arith, lt, e))) (looks body h (binding m var None))
+          (subst (AllLooks (TestRight m i.next vars)) (looks_loop m h var range par body line last) (looks_first (TestRight m i.next vars) (looks_of loop_of h m) (looks xs (past_stmt loop_of h) m) i.known.tests));
+    } where
+      number_by : (b : Bool) (o : Option ℤ) (k : ℕ) → IfSome o (λ z. number vars k ≡ z) → IfSome (if b then None else o) (λ z. number vars k ≡ z)
+      number_by true o k q = tt
+      number_by false o k q = q
+
+      free_by : (b : Bool) (o : Option ℤ) → o ≡ None → (if b then None else o) ≡ None
+      free_by true o q = refl
+      free_by false o q = q
+
+    enters : (ctx : Context) (n n' : Run) → H ctx (loop_of ∷ xs) h vars r r' → Follows r r' → SameDone r n → SameDone r' n' → Turning ctx var body h vars (enter w (inside ctx var None) var par (worked_all w body h) vars r') (range_of set var).0 n n'
+    enters ctx n n' i f a b =
+        let bound = node.of_loop (List ℕ) bindings_step var range par body line last in
+        let two = counts_split i.next (bindings_of loop_of) (bindings_of_all xs) i.counts in
+        let counted : counts_from i.next (var ∷ bindings_of_all body) ≡ true = subst (λ (bs : List ℕ). counts_from i.next bs ≡ true) bound two.0 in
+        let is : var ≡ i.next = equal c inputs fit wordy T var i.next (left (var == i.next) (counts_from (i.next + 1) (bindings_of_all body)) counted) in
+        let long = length-append (bindings_of loop_of) (bindings_of_all xs) in
+        let size = ap (λ (bs : List ℕ). length bs) bound in
+        record {
+          sc = i.sc;
+          par = par;
+          entry = r';
+          loop_is = refl;
+          entry_fits = also_fits set r r' f i.fits;
+          named = sym (ap (λ (g : Scope → Bool). g i.sc) (node.of_loop (Scope → Bool) scope.stmt_step var range par body line last)) ∙ left (is_named loop_of i.sc) (are_named xs i.sc) i.named;
+          counts = subst (λ (k : ℕ). counts_from (k + 1) (bindings_of_all body) ≡ true) (sym is) (right (var == i.next) (counts_from (i.next + 1) (bindings_of_all body)) counted);
+          room = omega (arith, i.enough, long, size, is);
+          below = λ k e. omega (arith, i.below k e, is);
+          worded = loop_worded i.worded;
+          numbers = i.numbers;
+          fits = subst (StagesFit set) (sym a.stages) i.fits;
+          good = subst AreWordy (sym a.stages) i.good;
+          matches = subst (λ (z : Rest). Matches T z.reads) (at_loop Rest written_step var range par body line last h) (reads_first (λ q. T q.read ≡ (q.tensor, q.at)) (written loop_of h).reads (texts xs (past_stmt loop_of h)).reads i.matches);
+          unnamed = unnamed_by ctx;
+          known = known_same c inputs fit wordy T body h (around ctx var) i.sc.loops var vars r' n' b.stages (known_enter ctx i is);
+          since = λ t q. same_readable c inputs fit wordy T t r' n' (ap (λ (ss : List Stage). frozen_in (stage_at ss t)) b.stages);
+        }
+
+    nothing_at : (m : Marks) (k : ℕ) → H (Some m) (loop_of ∷ xs) h vars r r' → NothingAt w m var par body h vars r' k
+    nothing_at m k i e =
+        let loop = enter w (Some (binding m var None)) var par (worked_all w body h) vars r' in
+        nothing_all_stays body (loop_worded i.worded) h (binding m var None) (marks_at loop vars (binding m var None) k)
+        (words_at w wordy.fills (Some (binding m var None)) (binding m var None) var par (worked_all w body h) vars r' k (binding_words m var None tt i.known.words)) (further_at loop vars (binding m var None) k) e
+
+  -- ---- all of it is carried
+  pub carried : Carries w H Turning
+  carried = record {
+    good = step.held_good c inputs fit wordy T;
+    work = step.held_work c inputs fit wordy T;
+    next = λ ctx x xs h vars r r' i f g fx. step.held_next c inputs fit wordy T x xs h vars r r' ctx i;
+    block = λ ctx body line last xs h vars r r' i. step.held_block c inputs fit wordy T body line last xs h vars r r' ctx i;
+    test = λ m test body line last xs h vars r r' i f can. step.held_test c inputs fit wordy T test body line last xs h vars r r' m i f can;
+    cond = λ ctx test body line last xs h vars r r' i f can e. step.held_cond c inputs fit wordy T test body line last xs h vars r r' ctx i f can e;
+    value = λ m var value body line last xs h vars r r' i f can. step.held_value c inputs fit wordy T var value body line last xs h vars r r' m i f can;
+    bind = λ ctx var value body line last xs h vars r r' i f can. step.held_bind c inputs fit wordy T var value body line last xs h vars r r' ctx i f can;
+    update = λ m t at by value line xs h vars r r' i f can. step.held_update c inputs fit wordy T t at by value line xs h vars r r' m i f can;
+    enter = λ ctx var range par body line last xs h vars r r' n n' i f a b. enters var range par body line last xs h vars r r' ctx n n' i f a b;
+    nothing = λ m var range par body line last xs h vars r r' k i. nothing_at var range par body line last xs h vars r r' m k i;
+    turn = λ ctx var body h vars e k r r' l f low high. at_turn ctx var body h vars e k r r' l high;
+    onward = λ ctx var body h vars e k r r' begins l f low high g one. goes_on ctx var body h vars e k r r' begins l high;
+  }

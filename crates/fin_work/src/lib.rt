@@ -6,4 +6,4 @@
 
 mod laws;
 
-pub use laws::{fewer_change, gaps_read_fill, masks_tell, readable_have_parts};
+pub use laws::{fewer_change, gaps_read_fill, masks_tell, pieced_is_sound, readable_have_parts};
