@@ -1,5 +1,5 @@
 -- What the builders of looplets make.
-use Rattle.std.proofs.Common.{◌≡◌, ◌+◌, List, [], ◌∷◌, Option, Some, None, refl, sym, ap, ◌∙◌}
+use Rattle.std.proofs.Common.{◌≡◌, List, [], ◌∷◌, Option, Some, refl, sym, ap, ◌∙◌}
 use denote.Hole.Carrier.{hidden}
 use Rattle.fin_ir.specs.declared.expression.IExpr.{IExpr}
 use Rattle.fin_looplet.specs.declared.looplet.Looplet.{Looplet}
@@ -28,9 +28,6 @@ stepper_arm l w v u a b c = ap (λ (x : Walker). Some x) (c ∙ b) ∙ sym (step
 
 pub jumper_arm : (l : Looplet) (w v u : Walker) → l ≡ Jumper w → v ≡ w → u ≡ v → Some u ≡ jumper l
 jumper_arm l w v u a b c = ap (λ (x : Walker). Some x) (c ∙ b) ∙ sym (jumper_is w) ∙ ap jumper (sym a)
-
-
-
 
 pub inside_stepper : (hi : IExpr) (l : Looplet) (w v : Walker) → l ≡ Stepper w → v ≡ w → cut v.stop v.child ≡ inside_one kind.Stepper hi l
 inside_stepper hi l w v a b = ap (λ (x : Walker). cut x.stop x.child) b ∙ ap (λ (o : Option Walker). inside hi o l) (sym (stepper_is w) ∙ ap stepper (sym a))

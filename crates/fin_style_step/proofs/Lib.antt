@@ -16,3 +16,7 @@ pub mod Jumpers
 pub mod Walkers
 pub mod Both
 pub mod Built
+pub mod Filled
+pub mod Halves
+pub mod Splitting
+pub mod Kept

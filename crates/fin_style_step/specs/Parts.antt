@@ -1,5 +1,5 @@
 -- The parts that each step makes of a nest of the program, and the frame for their codes.
-use Rattle.std.specs.Prelude.{ℕ, ◌+◌, List, [], ◌∷◌, ◌++◌, map, Bool, true, not, ◌||◌, ◌&&◌, if◌then◌else◌, Option, Some, None, pos}
+use Rattle.std.specs.Prelude.{◌+◌, List, [], ◌∷◌, ◌++◌, map, Bool, true, not, ◌||◌, ◌&&◌, if◌then◌else◌, Option, Some, None, pos}
 use Rattle.fin_ir.specs.declared.expression.IExpr.{IExpr}
 use Rattle.fin_ir.specs.declared.expression.IExpr.TheVariants.{Num, Local}
 use Rattle.fin_ir.specs.declared.code.Code.{Code}
@@ -63,13 +63,16 @@ others_one waits l = if waits then behind_stop (phased l) l else l
 abbrev pub is_sequence : Looplet → Bool
 is_sequence l = style.same_style style.sequence (style.head l)
 
+-- each entry, where the first sequence is still to come up to that one
+abbrev pub by_first : (Bool → Looplet → Looplet) → Bool → List Numbered → List Numbered
+by_first f waits [] = []
+by_first f waits (e ∷ rest) = with_looplet (f waits) e ∷ by_first f (waits && not (is_sequence e.looplet)) rest
+
 abbrev pub here_all : IExpr → Bool → List Numbered → List Numbered
-here_all hi waits [] = []
-here_all hi waits (e ∷ rest) = with_looplet (here_one hi waits) e ∷ here_all hi (waits && not (is_sequence e.looplet)) rest
+here_all hi = by_first (here_one hi)
 
 abbrev pub others_all : Bool → List Numbered → List Numbered
-others_all waits [] = []
-others_all waits (e ∷ rest) = with_looplet (others_one waits) e ∷ others_all (waits && not (is_sequence e.looplet)) rest
+others_all = by_first others_one
 
 -- no read is a sequence, so that the first one may be a mask
 abbrev pub masks_wait : Nest → Bool
@@ -129,6 +132,9 @@ inside_all k hi = map (with_looplet (inside_one k hi))
 -- those of the reads, and then those of the masks
 abbrev pub nest_walkers : Kind → Nest → List Walker
 nest_walkers k n = walkers (kind_of k) (looplets n.reads) ++ walkers (kind_of k) (looplets n.masks)
+
+abbrev pub inside_nest : Kind → Nest → Nest
+inside_nest k n = record n { reads = inside_all k n.hi n.reads; masks = inside_all k n.hi n.masks }
 
 abbrev pub stepper_part : Nest → Nest
 stepper_part n = record n {

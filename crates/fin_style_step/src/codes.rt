@@ -6,12 +6,17 @@ ghost use Rattle.fin_style_step.specs.Steps.{divide_at, divided_code, place, lea
 
 use fin_base::Op;
 use fin_ir::{Code, IExpr};
-use fin_looplet::{before, Walker};
+use fin_looplet::{Walker, before};
 use sqlite_items::{Boxed, Items};
 use std::alloc::{AllocError, Global};
 
 /// The number in the region that is nearest to the stop.
-pub(crate) fn divide_at(alloc: Global, lo: IExpr, hi: IExpr, stop: IExpr) -> Result<IExpr, AllocError>
+pub(crate) fn divide_at(
+    alloc: Global,
+    lo: IExpr,
+    hi: IExpr,
+    stop: IExpr,
+) -> Result<IExpr, AllocError>
     ensures { IfOk result (λ e. e ≡ divide_at lo hi stop) }
 {
     let upper = two(alloc, Op::Min, stop, hi)?;

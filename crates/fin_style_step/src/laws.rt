@@ -1,5 +1,6 @@
 //! What is proved of the steps, in both senses.
 ghost use Rattle.fin_style_step.specs.Laws.{SequencesSplit, SteppersSplit, JumpersSplit};
+ghost use Rattle.fin_style_step.specs.Splits.{PartsSplit};
 
 /// A nest's region may be cut where the first phase of its first sequence stops: the sequence is that phase before it,
 /// and the others behind; both parts weigh less.
@@ -16,4 +17,10 @@ pub fn steppers_split()
 /// coordinate before; the part weighs less.
 pub fn jumpers_split()
     ensures { JumpersSplit }
+{}
+
+/// The parts of a nest of the program whose style is sequence, stepper or jumper split it, weigh less, depend on nothing
+/// that their code changes where the nest doesn't, and have its body, reads and masks.
+pub fn parts_split()
+    ensures { PartsSplit }
 {}

@@ -20,5 +20,5 @@ mod laws;
 mod nest;
 mod walking;
 
-pub use laws::{jumpers_split, sequences_split, steppers_split};
+pub use laws::{jumpers_split, parts_split, sequences_split, steppers_split};
 pub use nest::{Frame, Kind, Nest, Numbered, Parts};
