@@ -10,3 +10,8 @@ pub mod Times
 pub mod Nothing
 pub mod Built
 pub mod Both
+pub mod Filled
+pub mod Chosen
+pub mod Flatness
+pub mod Splitting
+pub mod Kept

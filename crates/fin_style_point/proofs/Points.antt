@@ -17,7 +17,7 @@ use Rattle.fin_style_point.specs.Laws.{weight_in, PointsSplit}
 use Rattle.fin_style_point.proofs.Flat.{held_owns, held_free, held_loads, held_nested, held_apart, held_weight}
 use Rattle.fin_style_point.proofs.ForLoops.{for_means}
 
-point_weight : {S : Type 0} (n : Nest S) → AllFlat n.reads → weight_in (point_nest n) ≡ 0
+pub point_weight : {S : Type 0} (n : Nest S) → AllFlat n.reads → weight_in (point_nest n) ≡ 0
 point_weight n flat =
     let lo = Local n.next in
     let one : region lo (plus lo (Num (pos 1))) ≡ 0 = ap (λ (b : Bool). if b then 0 else 1) (same_self (plus lo (Num (pos 1)))) in

@@ -1,5 +1,5 @@
 -- The steps of the point styles: each from a nest to its parts and to the code between them.
-use Rattle.std.specs.Prelude.{◌≡◌, ◌⊎◌, ℕ, ◌+◌, List, [], ◌∷◌, ◌++◌, map, Bool, true, false, Option, Some, None, pos}
+use Rattle.std.specs.Prelude.{◌≡◌, ◌⊎◌, ℕ, ◌+◌, List, [], ◌∷◌, ◌++◌, ◌||◌, map, Bool, true, Option, Some, None, pos}
 use Rattle.fin_base.specs.declared.terms.Op.TheVariants as op
 use Rattle.fin_ir.specs.declared.expression.IExpr.{IExpr}
 use Rattle.fin_ir.specs.declared.expression.IExpr.TheVariants.{Num, Local, Two}
@@ -13,6 +13,7 @@ use Rattle.fin_looplet.specs.Cut.{plus, cut}
 use Rattle.fin_looplet.specs.Moved.{moved}
 use Rattle.fin_looplet.specs.Lists.{case_list}
 use Rattle.fin_nest.specs.Nests.{Nest}
+use Rattle.fin_nest.specs.Styles.{shift, switch, spike, run, lookup, head, same_style}
 
 -- some looplet of the list is of the kind
 abbrev pub Has : (Looplet → Bool) → List Looplet → Type 0
@@ -22,14 +23,7 @@ Has kind (l ∷ rest) = (kind l ≡ true) ⊎ Has kind rest
 -- ---- spike: each one is cut at the region's end, where it is two runs
 
 abbrev pub is_spike : Looplet → Bool
-is_spike (Run leaf) = false
-is_spike (Spike body tail) = true
-is_spike (Lookup coord leaf) = false
-is_spike (Sequence' n phases) = false
-is_spike (Stepper' p walker) = false
-is_spike (Jumper' p walker) = false
-is_spike (Switch' n cases) = false
-is_spike (Shift' by p child) = false
+is_spike l = same_style spike (head l)
 
 abbrev pub spike_nest : {S : Type 0} → Nest S → Nest S
 spike_nest n = record n { reads = map (cut n.hi) n.reads }
@@ -37,14 +31,7 @@ spike_nest n = record n { reads = map (cut n.hi) n.reads }
 -- ---- shift: each one is pushed inside, and all at once
 
 abbrev pub is_shift : Looplet → Bool
-is_shift (Run leaf) = false
-is_shift (Spike body tail) = false
-is_shift (Lookup coord leaf) = false
-is_shift (Sequence' n phases) = false
-is_shift (Stepper' p walker) = false
-is_shift (Jumper' p walker) = false
-is_shift (Switch' n cases) = false
-is_shift (Shift' by p child) = true
+is_shift l = same_style shift (head l)
 
 abbrev pub unshifted : Looplet → Looplet
 unshifted (Run leaf) = Run leaf
@@ -89,6 +76,9 @@ alternatives (Jumper' p walker) = None
 alternatives (Switch' n cases) = Some (first_case cases)
 alternatives (Shift' by p child) = None
 
+abbrev pub is_switch : Looplet → Bool
+is_switch l = same_style switch (head l)
+
 -- the first switch of a list, with the lists that have its alternatives for it
 pub record Choice : Type 0 where
   pub test : IExpr
@@ -118,14 +108,7 @@ switch_code n test taken others = either_code n.next test taken others
 -- ---- run and lookup: one coordinate after another, where each lookup is a run of what it is at that coordinate
 
 abbrev pub is_flat : Looplet → Bool
-is_flat (Run leaf) = true
-is_flat (Spike body tail) = false
-is_flat (Lookup coord leaf) = true
-is_flat (Sequence' n phases) = false
-is_flat (Stepper' p walker) = false
-is_flat (Jumper' p walker) = false
-is_flat (Switch' n cases) = false
-is_flat (Shift' by p child) = false
+is_flat l = same_style run (head l) || same_style lookup (head l)
 
 abbrev pub AllFlat : List Looplet → Type 0
 AllFlat [] = Unit {0}

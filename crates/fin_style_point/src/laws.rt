@@ -1,6 +1,7 @@
 //! What is proved of the steps, in both senses.
 ghost use Rattle.fin_style_point.specs.Laws.{SpikesSplit, ShiftsSplit, SwitchesSplit};
 ghost use Rattle.fin_style_point.specs.Laws.{LoopsSplit, FixedIsAtOnce, NothingIsSkipped};
+ghost use Rattle.fin_style_point.specs.Splits.{PartsAreStepped};
 
 /// A nest's spikes may be cut at its region's end: that is two runs each, and weighs less.
 pub fn spikes_split()
@@ -32,4 +33,10 @@ pub fn fixed_is_at_once()
 /// Code that does nothing means a nest whose body does nothing.
 pub fn nothing_is_skipped()
     ensures { NothingIsSkipped }
+{}
+
+/// The parts of a nest of the program, by the first style that one of its looplets has, split it, weigh less, depend on
+/// nothing that their code changes where the nest doesn't, and have its body.
+pub fn parts_are_stepped()
+    ensures { PartsAreStepped }
 {}

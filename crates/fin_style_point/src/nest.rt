@@ -1,0 +1,42 @@
+//! Nests and their parts.
+use fin_ast::Stmt;
+use fin_ir::{Code, IExpr};
+use fin_looplet::Looplet;
+use sqlite_items::Items;
+
+/// What a read sees, by its number in the order of the text; or a mask, by the number of its `if`.
+#[derive(Debug, Drop)]
+pub struct Numbered {
+    pub number: u32,
+    pub looplet: Looplet,
+}
+
+/// The loop from `lo` on and before `hi` over the body, with the variable in the local `var`. `next` is above each
+/// local that it names.
+#[derive(Debug, Drop)]
+pub struct Nest {
+    pub body: Stmt,
+    pub var: u32,
+    pub lo: IExpr,
+    pub hi: IExpr,
+    pub next: u32,
+    pub reads: Items<Numbered>,
+    pub masks: Items<Numbered>,
+}
+
+/// A code in which the k-th `Skip` in order stands for the k-th nest.
+pub type Frame = Code;
+
+/// What a step leaves to be done, and the code around it.
+#[derive(Debug, Drop)]
+pub struct Parts {
+    pub frame: Frame,
+    pub nests: Items<Nest>,
+}
+
+/// The two ways in which a switch goes on.
+#[derive(Clone, Copy, Debug, PartialEq, Eq)]
+pub enum Branch {
+    Taken,
+    Others,
+}
