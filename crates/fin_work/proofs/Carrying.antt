@@ -1,5 +1,5 @@
 -- What is to hold of a list of statements before a run does it, so that the run by pieces may follow the run by stages.
-use Rattle.std.proofs.Common.{◌≡◌, ◌<◌, ◌≤◌, ◌+◌, ◌-◌, ℕ, ℤ, pos, Bool, true, false, List, ◌∷◌, map, Option, Some, None}
+use Rattle.std.proofs.Common.{◌≡◌, ◌<◌, ◌≤◌, ◌+◌, ℕ, ℤ, pos, Bool, true, false, List, ◌∷◌, Option, Some, None}
 use Rattle.std.specs.Prelude.{IfSome, slice_set}
 use Rattle.std.specs.Ordering.{int_eq}
 use Rattle.fin_base.specs.declared.reduce.Reduce.{Reduce}

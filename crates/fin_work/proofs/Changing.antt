@@ -1,17 +1,16 @@
 -- The more is known, the fewer tensors are changed.
-use Rattle.std.proofs.Common.{◌≡◌, ℕ, ℤ, pos, Bool, true, false, ◌&&◌, ◌||◌, List, [], ◌∷◌, ◌++◌, map, Option, Some, None, refl, sym, ap, ◌∙◌, subst, if◌then◌else◌}
+use Rattle.std.proofs.Common.{◌≡◌, ℕ, ℤ, pos, Bool, true, false, ◌||◌, List, [], ◌∷◌, ◌++◌, map, Option, Some, None, refl, sym, ap, ◌∙◌, subst, if◌then◌else◌}
 use Rattle.std.specs.Prelude.{nat_eq}
-use Rattle.std.specs.List.{list_any}
 use Rattle.std.specs.Ordering.{int_eq}
 use Rattle.fin_ast.specs.declared.tree.Index.{Index}
 use Rattle.fin_ast.specs.declared.tree.Expr.{Expr}
 use Rattle.fin_ast.specs.declared.tree.Stmt.{Stmt}
 use Rattle.fin_ast.specs.Literals.{is_worded, all_hold, worded_stmt_step, is_worded_stmt}
 use Rattle.fin_ast.proofs.Nodes as node
-use Rattle.fin_ast.proofs.Induction.{AllOf, Cases, by_kind, all_by_kind}
+use Rattle.fin_ast.proofs.Induction.{AllOf, Cases, all_by_kind}
 use Rattle.fin_simp.specs.Numbered.{Here, behind, behind_test, past_stmt}
 use Rattle.fin_simp.specs.Left.{Marks, binding, fails, as_expr, left_of}
-use Rattle.fin_simp.specs.Remaining.{literal_of, is_identity_literal, settled_literal, are_nothing}
+use Rattle.fin_simp.specs.Remaining.{literal_of, is_identity_literal, settled_literal}
 use Rattle.fin_simp.specs.Rest.{ExprRest, Test, Kind, Nothing, OneUpdate, Other, Rest, is_none_kind, nothing, kinds, beside, no_expr, within_kind, chosen_rest, let_rest, updating_rest, test_rest, expr_rest, rest_step, rest_of}
 use Rattle.fin_simp.specs.Wording.{KnowsWords, StaysIn, Further}
 use Rattle.fin_simp.specs.Work.{is_in}
@@ -93,9 +92,10 @@ quiet body = quiet_bodies body (all_by_kind IsQuiet quiet_cases body)
 pub let_marks : (var : ℕ) (value : Expr) → is_worded value ≡ true → (k : ℕ) (m m' : Marks) → KnowsWords m' → Further m m'
     → KnowsWords (binding m' var (expr_rest value k m').literal) × Further (binding m var (expr_rest value k m).literal) (binding m' var (expr_rest value k m').literal)
 let_marks var value q k m m' w f =
-    subst (λ (o : Option ℤ). KnowsWords (binding m' var o) × Further (binding m var (expr_rest value k m).literal) (binding m' var o)) (sym (rest_literal value k m'))
-    (binding_words m' var (literal_of value k m') (literal_is_word value q k m' w) w,
-    subst (λ (o : Option ℤ). Further (binding m var o) (binding m' var (literal_of value k m'))) (sym (rest_literal value k m)) (binding_stays m m' var (literal_of value k m) (literal_of value k m') (literal_stays value q k m m' w f) f))
+    subst (λ (o : Option ℤ). KnowsWords (binding m' var o) × Further (binding m var (expr_rest value k m).literal) (binding m' var o)) (sym (rest_literal value k m')) (
+      binding_words m' var (literal_of value k m') (literal_is_word value q k m' w) w,
+      subst (λ (o : Option ℤ). Further (binding m var o) (binding m' var (literal_of value k m'))) (sym (rest_literal value k m)) (binding_stays m m' var (literal_of value k m) (literal_of value k m') (literal_stays value q k m m' w f) f),
+    )
 
 -- ---- a tensor that isn't changed
 module _ (t : ℕ) where

@@ -1,5 +1,5 @@
 -- What a run by pieces knows at a coordinate of a loop is right, where what it knows around the loop is.
-use Rattle.std.proofs.Common.{◌≡◌, ◌≢◌, ◌<◌, ◌≤◌, ◌+◌, ℕ, ℤ, pos, Bool, true, false, ◌&&◌, ◌||◌, List, [], ◌∷◌, map, length, Option, Some, None, refl, sym, ap, ◌∙◌, subst, arith, if◌then◌else◌}
+use Rattle.std.proofs.Common.{◌≡◌, ◌<◌, ◌+◌, ℕ, ℤ, pos, Bool, true, false, ◌&&◌, ◌||◌, List, [], ◌∷◌, map, length, Option, Some, None, refl, sym, ap, ◌∙◌, subst, arith, if◌then◌else◌}
 use Rattle.std.specs.Prelude.{IfSome, nat_eq, is_none, slice_set, filter_map, option_map}
 use Rattle.std.specs.List.{list_all, cons_option}
 use Rattle.std.specs.Option.{option_or}
@@ -7,7 +7,6 @@ use Rattle.std.specs.Ordering.{int_eq}
 use Rattle.std.proofs.lemmas.Bool.Decides.{nat_tests}
 use Rattle.std.proofs.lemmas.List.{get_or-set_other}
 use Rattle.fin_base.specs.Words.{IsWord}
-use Rattle.fin_base.specs.declared.terms.Op.{Op}
 use Rattle.fin_tensor.specs.TensorFunction.{TensorFunction}
 use Rattle.fin_tensor.specs.declared.storage.Storage.{Storage}
 use Rattle.fin_ast.specs.declared.checked.Checked.{Checked}
@@ -43,9 +42,9 @@ use Rattle.fin_work.proofs.Gaps.{gaps_read_fill}
 use Rattle.fin_work.proofs.Masks.{masks_tell}
 use Rattle.fin_work.proofs.Changing.{fewer_change}
 use Rattle.fin_work.proofs.Standing.{further_at, words_at}
-use Rattle.fin_work.proofs.Numbering.{texts, AllReads, remaining_reads}
-use Rattle.fin_work.proofs.Looking.{Look, looks, AllLooks, each_look, as_test, AllTests, remaining_tests, Deeper, deeper_looks, look_at, both_looks, all_looks_found}
-use Rattle.fin_work.proofs.Known.{Below, TestRight, Table, Matches, ReadRight, Known, left_same}
+use Rattle.fin_work.proofs.Numbering.{texts, remaining_reads}
+use Rattle.fin_work.proofs.Looking.{Look, looks, each_look, as_test, AllTests, remaining_tests, Deeper, deeper_looks, look_at, both_looks, all_looks_found}
+use Rattle.fin_work.proofs.Known.{Below, TestRight, Table, Matches, Known, left_same}
 use Rattle.fin_work.proofs.Written.{written_covers, written_tests}
 
 -- ---- marks that are right where more is known are right
@@ -167,7 +166,7 @@ module _ (c : Checked) (inputs : List Storage) (fit : FitProgram c inputs) (fill
   set = setting_of c inputs
 
   module _ (ctx : Context) (var : ℕ) (par : Bool) (body : List Stmt) (worded : all_hold (map is_worded_stmt body) ≡ true) (h : Here) (vars : Numbers) (bound : var < length vars) (entry : Run) (fits : StagesFit set entry.stages)
-    (matches : Matches T (texts body h).reads) where
+      (matches : Matches T (texts body h).reads) where
     abbrev parts : List Worked
     parts = worked_all w body h
 
@@ -209,7 +208,7 @@ module _ (c : Checked) (inputs : List Storage) (fit : FitProgram c inputs) (fill
           covers = λ t f. f;
           reads = remaining_reads (λ (a : Access). T a.read ≡ (a.tensor, a.at)) body h m matches;
           tests = remaining_tests ToldBy body h m (each_look (λ l. look_at all_seen l.test ≡ l) (λ l. ToldBy (as_test l))
-          (λ l is. told_seen l is (as_expr (left_of l.expr l.read l.marks)) (λ later ts sees word words rights. left_same later ts sees l.expr word l.read l.marks words rights)) all_seen (all_looks_found body h m));
+              (λ l is. told_seen l is (as_expr (left_of l.expr l.read l.marks)) (λ later ts sees word words rights. left_same later ts sees l.expr word l.read l.marks words rights)) all_seen (all_looks_found body h m));
         })
 
     pub entered : Entry seen_rest

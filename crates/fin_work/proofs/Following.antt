@@ -6,14 +6,13 @@ use Rattle.fin_base.specs.declared.reduce.Reduce.{Reduce}
 use Rattle.fin_base.specs.Words.{apply}
 use Rattle.fin_tensor.specs.Building.{Building, started, follows, updated}
 use Rattle.fin_tensor.specs.TensorFunction.{TensorFunction}
-use Rattle.fin_ast.specs.declared.tree.Expr.{Expr}
 use Rattle.fin_ast.specs.declared.tree.Stmt.TheVariants as s
-use Rattle.fin_ast.specs.Value.{Numbers, Tensors, place, coordinates, value_of}
+use Rattle.fin_ast.specs.Value.{Numbers, place, coordinates, value_of}
 use Rattle.fin_ast.specs.Actions.{Leaf, Declare, Freeze, Thaw, Update}
 use Rattle.fin_ast.specs.Dense.{Setting, made_at, shape_at}
 use Rattle.fin_ast.proofs.Acting.{act_declare, act_freeze, act_thaw, act_update}
 use Rattle.fin_stage.specs.Stages.{Stage, Absent, Built, Frozen, stage_at, function_in, frozen_in, is_declared, kept, work_of_declaration}
-use Rattle.fin_stage.specs.Staged.{Run, worked, with_stage, unalive, unordered, format_at, regular, closed, tensors_of, can_read, has_small_indices, asked_to_read, asked_for_small, are_small, is_made, declare, freeze_at, freeze, thaw_at, thaw, put_at, update_at, update, leaf, staging}
+use Rattle.fin_stage.specs.Staged.{Run, worked, with_stage, unalive, unordered, format_at, regular, closed, tensors_of, can_read, has_small_indices, asked_to_read, asked_for_small, are_small, is_made, declare, freeze_at, thaw_at, put_at, update_at, update, leaf, staging}
 use Rattle.fin_stage.specs.Trailing.{StageTrails, RunTrails, Monotone}
 use Rattle.fin_stage.proofs.Trailing.{stage_monotone}
 use Rattle.fin_work.specs.Following.{Follows}

@@ -1,9 +1,9 @@
 -- A read whose gap is seen gives the fill.
-use Rattle.std.proofs.Common.{◌≡◌, ℕ, zero, suc, ◌+◌, ◌≤◌, ℤ, pos, negsuc, Bool, true, false, List, [], ◌∷◌, map, length, Option, Some, None, refl, sym, ap, ◌∙◌, arith, subst, if◌then◌else◌, IsTrue}
+use Rattle.std.proofs.Common.{◌≡◌, ℕ, suc, ◌+◌, ℤ, pos, negsuc, Bool, true, false, List, [], ◌∷◌, map, Option, Some, None, refl, sym, ap, ◌∙◌, arith, subst, if◌then◌else◌}
 use Rattle.std.specs.Prelude.{◌&&◌, nat_eq, nat_lt, nat_le, slice_set, slice_index_or}
 use Rattle.fin_tensor.specs.declared.part.Part.{Part}
 use Rattle.fin_tensor.specs.declared.storage.Storage.{Storage}
-use Rattle.fin_tensor.specs.TensorFunction.{TensorFunction, value_at, is_in_box}
+use Rattle.fin_tensor.specs.TensorFunction.{TensorFunction}
 use Rattle.fin_ast.specs.declared.tree.Index.{Index}
 use Rattle.fin_ast.specs.declared.checked.Checked.{Checked}
 use Rattle.fin_ast.specs.Value.{Numbers, place, with_first, coordinates, value_in, read}
@@ -92,8 +92,8 @@ module _ (vars later : Numbers) (var c : ℕ) (same : SameUpTo var (slice_set va
       by (Some cs) k = ap (value_in f) k ∙ sym (h.values cs (in_box f.shape places cs k)) ∙ sym (ap (value_from_at f.shape ps h.val f.fill 0) k) ∙ filled
 
 module _ (c : Checked) (inputs : List Storage) (r : Run) (fit : FitProgram c inputs) (fits : StagesFit (setting_of c inputs) r.stages) (vars later : Numbers) (var coord : ℕ) (changed : List ℕ) (a : Access) (d : ℕ × Index)
-  (driven : driven_index var a.at ≡ Some d) (same : SameUpTo var (slice_set vars var (pos coord)) later) (f : TensorFunction) (stands : Stands (world_of c inputs) a.tensor f)
-  (seen : is_in changed a.tensor ≡ false → tensors_of (setting_of c inputs) r a.tensor ≡ Some f) where
+    (driven : driven_index var a.at ≡ Some d) (same : SameUpTo var (slice_set vars var (pos coord)) later) (f : TensorFunction) (stands : Stands (world_of c inputs) a.tensor f)
+    (seen : is_in changed a.tensor ≡ false → tensors_of (setting_of c inputs) r a.tensor ≡ Some f) where
   abbrev w : World
   w = world_of c inputs
 

@@ -1,6 +1,6 @@
 -- What holds of statements along a run: the rules on names, words, fitting stages, and that what is known is right.
-use Rattle.std.proofs.Common.{◌≡◌, ◌≢◌, ◌<◌, ◌≤◌, ◌+◌, ◌-◌, ◌^◌, ℕ, zero, suc, ℤ, pos, Bool, true, false, ◌&&◌, ◌||◌, List, [], ◌∷◌, ◌++◌, map, length, Option, Some, None, refl, sym, ap, ◌∙◌, subst, arith, if◌then◌else◌}
-use Rattle.std.specs.Prelude.{IfSome, nat_eq, slice_set}
+use Rattle.std.proofs.Common.{◌≡◌, ◌<◌, ◌≤◌, ◌+◌, ℕ, zero, suc, ℤ, Bool, true, false, List, [], ◌∷◌, map, length, Option, Some, None, refl, sym, ap, ◌∙◌, subst, arith, if◌then◌else◌}
+use Rattle.std.specs.Prelude.{IfSome, slice_set}
 use Rattle.std.specs.Option.{option_or}
 use Rattle.fin_base.specs.Words.{IsWord}
 use Rattle.fin_tensor.specs.TensorFunction.{TensorFunction}
@@ -8,7 +8,6 @@ use Rattle.fin_tensor.specs.Canon.{undecorated}
 use Rattle.fin_tensor.specs.declared.format.Format.{Format}
 use Rattle.fin_tensor.specs.declared.storage.Storage.{Storage}
 use Rattle.fin_ast.specs.declared.checked.Checked.{Checked}
-use Rattle.fin_ast.specs.declared.tree.Index.{Index}
 use Rattle.fin_ast.specs.declared.tree.Expr.{Expr}
 use Rattle.fin_ast.specs.declared.tree.Stmt.{Stmt}
 use Rattle.fin_ast.specs.Accepted.{FitProgram}
@@ -30,7 +29,6 @@ use Rattle.fin_simp.specs.Rest.{ExprRest, Test, Rest, nothing, is_none_kind, wit
 use Rattle.fin_simp.specs.Right.{right_expr}
 use Rattle.fin_simp.specs.Work.{World, Context, is_in, world_of, marks_within}
 use Rattle.fin_simp.proofs.Values.{SeesWords}
-use Rattle.fin_work.specs.Gaps.{Stands}
 use Rattle.fin_work.specs.Changing.{changed_by}
 use Rattle.fin_work.specs.Following.{Follows}
 use Rattle.fin_work.proofs.Parts.{readable_have_parts}
@@ -124,8 +122,8 @@ module _ (c : Checked) (inputs : List Storage) (fit : FitProgram c inputs) (word
 
   -- ---- from what is known of some statements to what is known of a part of them, or of those behind
   module _ (xs ys : List Stmt) (h h' : Here) (m m' : Marks) (loops : List ℕ) (n n' : ℕ) (vars vars' : Numbers) (r r' : Run) (known : Known w T xs h m loops n vars r)
-    (same : (k : ℕ) → m'.reads k ≡ m.reads k) (below : (later : Numbers) → Below n' vars' later → Below n vars later)
-    (part : (t : ℕ) → is_in (changed_by xs h m) t ≡ false → (is_in (changed_by ys h' m') t ≡ false) × (tensors_of set r' t ≡ tensors_of set r t)) where
+      (same : (k : ℕ) → m'.reads k ≡ m.reads k) (below : (later : Numbers) → Below n' vars' later → Below n vars later)
+      (part : (t : ℕ) → is_in (changed_by xs h m) t ≡ false → (is_in (changed_by ys h' m') t ≡ false) × (tensors_of set r' t ≡ tensors_of set r t)) where
     pub reads_part : (k : ℕ) → ReadRight w T ys h' m' n' vars' r' k
     reads_part k z q later b f stands seen =
         known.reads k z (sym (same k) ∙ q) later (below later b) f stands (λ free. let two = part (T k).0 free in sym two.1 ∙ seen two.0)

@@ -1,15 +1,13 @@
 -- What a run by pieces knows at a place is right of each expression that is looked at there.
-use Rattle.std.proofs.Common.{◌≡◌, ◌<◌, ◌≤◌, ◌+◌, ℕ, ℤ, pos, Bool, true, false, ◌&&◌, List, [], ◌∷◌, map, Option, Some, None, refl, sym, ap, ◌∙◌, subst, arith, if◌then◌else◌}
+use Rattle.std.proofs.Common.{◌≡◌, ◌<◌, ℕ, ℤ, pos, Bool, true, false, ◌&&◌, List, [], ◌∷◌, map, Option, Some, None, refl, sym, ap, ◌∙◌, subst, arith, if◌then◌else◌}
 use Rattle.std.specs.Prelude.{IfSome, is_some, is_none}
 use Rattle.std.specs.List.{list_all}
 use Rattle.std.specs.Ordering.{int_eq}
 use Rattle.std.proofs.lemmas.Int.{ints}
-use Rattle.fin_base.specs.declared.terms.Op.{Op}
 use Rattle.fin_base.specs.Words.{IsWord}
 use Rattle.fin_tensor.specs.TensorFunction.{TensorFunction}
 use Rattle.fin_ast.specs.declared.tree.Index.{Index}
 use Rattle.fin_ast.specs.declared.tree.Expr.{Expr}
-use Rattle.fin_ast.specs.declared.tree.Expr.TheVariants as e
 use Rattle.fin_ast.specs.declared.tree.Stmt.{Stmt}
 use Rattle.fin_ast.specs.Literals.{is_worded}
 use Rattle.fin_ast.specs.Scope as scope
@@ -22,22 +20,21 @@ use Rattle.fin_stage.proofs.Alive.{left, right, both}
 use Rattle.fin_simp.specs.Numbered.{Here, past_expr}
 use Rattle.fin_simp.specs.declared.remainder.Left.{Left}
 use Rattle.fin_simp.specs.declared.remainder.Left.TheVariants.{Literal, Open}
-use Rattle.fin_simp.specs.Left.{Marks, nothing_known, as_expr, literal_in, fails, left_of}
-use Rattle.fin_simp.specs.Remaining.{literal_of, settled_literal, test_literal}
+use Rattle.fin_simp.specs.Left.{Marks, nothing_known, as_expr, literal_in, left_of}
+use Rattle.fin_simp.specs.Remaining.{literal_of, settled_literal}
 use Rattle.fin_simp.specs.Rest.{Access, written_expr_step, reads_of}
 use Rattle.fin_simp.specs.Right.{agrees, is_unknown, is_clear, Judging, right_expr_step, right_expr}
-use Rattle.fin_simp.specs.Wording.{KnowsWords, StaysIn, Further}
+use Rattle.fin_simp.specs.Wording.{KnowsWords}
 use Rattle.fin_simp.specs.Work.{World, is_in}
 use Rattle.fin_simp.proofs.Induction.{ExprCases, by_expr}
 use Rattle.fin_simp.proofs.Equations.{at_num, at_var, at_read, at_neg, at_two}
 use Rattle.fin_simp.proofs.Literals.{literal_is}
 use Rattle.fin_simp.proofs.Judging.{SameUnknown, right_value}
-use Rattle.fin_simp.proofs.Mentions.{rests}
 use Rattle.fin_simp.proofs.Values.{SeesWords, marked_is_word, left_value}
 use Rattle.fin_work.specs.Gaps.{Stands}
 use Rattle.fin_work.specs.Changing.{changed_by}
 use Rattle.fin_work.proofs.Carrying.{IsRight, IsRightTest}
-use Rattle.fin_work.proofs.Looking.{Look, looks, AllLooks, each_look}
+use Rattle.fin_work.proofs.Looking.{Look, looks, AllLooks}
 use Rattle.fin_work.proofs.Numbering.{AllReads, reads_first, reads_second}
 
 -- numbers that are the same below a variable; what is bound later is numbered from it on
@@ -108,7 +105,7 @@ test_right = settled_right
 
 -- ---- marks are right of an expression
 module _ (w : World) (T : Table) (xs : List Stmt) (h : Here) (m : Marks) (sc : Scope) (n : ℕ) (vars : Numbers) (r' : Run) (known : Known w T xs h m sc.loops n vars r') (ts : Tensors) (same : tensors_of w.setting r' ≡ ts)
-  (stands : (t : ℕ) (f : TensorFunction) → ts t ≡ Some f → Stands w t f) where
+    (stands : (t : ℕ) (f : TensorFunction) → ts t ≡ Some f → Stands w t f) where
   none_is : (o : Option ℤ) → o ≡ None → is_none o ≡ true
   none_is None e = refl
   none_is (Some z) e = cc

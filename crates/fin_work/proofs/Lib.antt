@@ -4,6 +4,7 @@ mod Masks
 mod Following
 mod Carrying
 mod Running
+mod Asking
 mod Pieced
 mod Changing
 mod Standing

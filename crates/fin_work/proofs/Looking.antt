@@ -11,7 +11,7 @@ use Rattle.fin_ast.specs.declared.tree.Stmt.TheOpen.{Stmt-F}
 use Rattle.fin_ast.specs.declared.tree.Stmt.TheVariants as s
 use Rattle.fin_ast.specs.Literals.{is_worded, all_hold, worded_stmt_step, is_worded_stmt}
 use Rattle.fin_ast.proofs.Nodes as node
-use Rattle.fin_ast.proofs.Induction.{AllOf, Cases, by_kind, all_by_kind}
+use Rattle.fin_ast.proofs.Induction.{AllOf, Cases, all_by_kind}
 use Rattle.fin_simp.specs.Numbered.{Here, behind, behind_test, past_all, past_stmt_step, past_stmt, numbered, numbered_all}
 use Rattle.fin_simp.specs.Left.{Marks, nothing_known, binding, as_expr, left_of}
 use Rattle.fin_simp.specs.Remaining.{is_identity_literal}
@@ -288,11 +288,12 @@ both_looks P Q (l ∷ ls) p q = ((p.0, q.0), both_looks P Q ls p.1 q.1)
 
 found_looks : (k : ℕ) (ls : List Look) (j : ℕ) → InOrder k ls j → AllLooks (λ l. look_at ls l.test ≡ l) ls
 found_looks k [] j c = tt
-found_looks k (l ∷ ls) j c =
-    (ap (λ (b : Bool). if b then l else look_at ls l.test) (same_eq l.test l.test refl),
-    each_look (λ b. (k + 1 ≤ b.test) × (look_at ls b.test ≡ b)) (λ b. look_at (l ∷ ls) b.test ≡ b)
-    (λ b h. ap (λ (z : Bool). if z then l else look_at ls b.test) (other_eq l.test b.test (omega (arith, c.0, h.0))) ∙ h.1) ls
-    (both_looks (λ b. k + 1 ≤ b.test) (λ b. look_at ls b.test ≡ b) ls (later_tests (k + 1) ls j c.1) (found_looks (k + 1) ls j c.1)))
+found_looks k (l ∷ ls) j c = (
+  ap (λ (b : Bool). if b then l else look_at ls l.test) (same_eq l.test l.test refl),
+  each_look (λ b. (k + 1 ≤ b.test) × (look_at ls b.test ≡ b)) (λ b. look_at (l ∷ ls) b.test ≡ b)
+      (λ b h. ap (λ (z : Bool). if z then l else look_at ls b.test) (other_eq l.test b.test (omega (arith, c.0, h.0))) ∙ h.1) ls
+      (both_looks (λ b. k + 1 ≤ b.test) (λ b. look_at ls b.test ≡ b) ls (later_tests (k + 1) ls j c.1) (found_looks (k + 1) ls j c.1)),
+)
 
 pub all_looks_found : (body : List Stmt) (h : Here) (m : Marks) → AllLooks (λ l. look_at (looks body h m) l.test ≡ l) (looks body h m)
 all_looks_found body h m = found_looks h.test (looks body h m) (past_all (map past_stmt body) h).test (order_bodies body (all_by_kind Ordered order_cases body) h m)

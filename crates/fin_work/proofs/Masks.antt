@@ -1,14 +1,12 @@
 -- A mask's value is its test's.
-use Rattle.std.proofs.Common.{◌≡◌, ◌≢◌, ◌<◌, ◌≤◌, ℕ, ℤ, pos, Bool, true, false, ◌&&◌, List, length, Option, Some, None, refl, sym, ap, ◌∙◌, arith, subst, if◌then◌else◌}
-use Rattle.std.specs.Prelude.{nat_eq, nat_lt, slice_set}
+use Rattle.std.proofs.Common.{◌≡◌, ◌<◌, ℕ, ℤ, pos, Bool, true, false, ◌&&◌, length, Option, Some, None, refl, sym, ap, ◌∙◌, arith, if◌then◌else◌}
+use Rattle.std.specs.Prelude.{nat_lt, slice_set}
 use Rattle.std.proofs.lemmas.List.{get_or-set_same, get_or-set_other}
 use Rattle.std.proofs.lemmas.Bool.Decides.{nat_tests}
 use Rattle.fin_base.specs.Words.{operate, negated}
 use Rattle.fin_base.specs.declared.terms.Op.{Op}
-use Rattle.fin_ast.specs.declared.tree.Index.{Index}
 use Rattle.fin_ast.specs.declared.tree.Expr.{Expr, map-Expr, out-Expr, fold_out-Expr}
 use Rattle.fin_ast.specs.declared.tree.Expr.TheOpen.{Expr-F}
-use Rattle.fin_ast.specs.declared.tree.Expr.TheVariants as e
 use Rattle.fin_ast.specs.Value.{Numbers, Tensors, Reading, number, value_step, value_of}
 use Rattle.fin_ast.proofs.Nodes as node
 use Rattle.fin_ast.proofs.Values.{value_num, value_var, value_neg, value_two}

@@ -7,7 +7,7 @@ use Rattle.fin_ast.specs.declared.tree.Index.{Index}
 use Rattle.fin_ast.specs.declared.tree.Expr.{Expr}
 use Rattle.fin_ast.specs.declared.tree.Stmt.{Stmt}
 use Rattle.fin_ast.proofs.Nodes as node
-use Rattle.fin_ast.proofs.Induction.{AllOf, Cases, by_kind, all_by_kind}
+use Rattle.fin_ast.proofs.Induction.{AllOf, Cases, all_by_kind}
 use Rattle.fin_simp.specs.Numbered.{Here, past_step, past_expr, behind, behind_test, past_all, past_stmt_step, past_stmt, numbered_all}
 use Rattle.fin_simp.specs.Left.{Marks, binding, as_expr, left_of}
 use Rattle.fin_simp.specs.Remaining.{joined_literal, turned_literal, is_identity_literal}
@@ -114,11 +114,12 @@ other_eq n m e = grind (arith, nat_tests)
 
 pub all_found : (k : ℕ) (more : List Access) (j : ℕ) → Consecutive k more j → AllReads (λ a. lookup more a.read ≡ (a.tensor, a.at)) more
 all_found k [] j c = tt
-all_found k (a ∷ more) j c =
-    (ap (λ (b : Bool). if b then (a.tensor, a.at) else lookup more a.read) (same_eq a.read a.read refl),
-    each_read (λ b. (k + 1 ≤ b.read) × (lookup more b.read ≡ (b.tensor, b.at))) (λ b. lookup (a ∷ more) b.read ≡ (b.tensor, b.at))
-    (λ b h. ap (λ (z : Bool). if z then (a.tensor, a.at) else lookup more b.read) (other_eq a.read b.read (omega (arith, c.0, h.0))) ∙ h.1) more
-    (both_reads (λ b. k + 1 ≤ b.read) (λ b. lookup more b.read ≡ (b.tensor, b.at)) more (later_numbers (k + 1) more j c.1) (all_found (k + 1) more j c.1)))
+all_found k (a ∷ more) j c = (
+  ap (λ (b : Bool). if b then (a.tensor, a.at) else lookup more a.read) (same_eq a.read a.read refl),
+  each_read (λ b. (k + 1 ≤ b.read) × (lookup more b.read ≡ (b.tensor, b.at))) (λ b. lookup (a ∷ more) b.read ≡ (b.tensor, b.at))
+      (λ b h. ap (λ (z : Bool). if z then (a.tensor, a.at) else lookup more b.read) (other_eq a.read b.read (omega (arith, c.0, h.0))) ∙ h.1) more
+      (both_reads (λ b. k + 1 ≤ b.read) (λ b. lookup more b.read ≡ (b.tensor, b.at)) more (later_numbers (k + 1) more j c.1) (all_found (k + 1) more j c.1)),
+)
 
 -- ---- what holds of the accesses of a text holds of those that remain
 module _ (P : Access → Type 0) where

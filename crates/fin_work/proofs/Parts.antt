@@ -8,7 +8,7 @@ use Rattle.fin_tensor.specs.declared.part.Part.{Part}
 use Rattle.fin_tensor.specs.declared.storage.Storage.{Storage}
 use Rattle.fin_tensor.specs.TensorFunction.{TensorFunction, value_at, is_in_box}
 use Rattle.fin_tensor.specs.Levels.{IsStored, positions, value_from}
-use Rattle.fin_tensor.specs.Canon.{Slice, kept, next, canon_parts, canon_values, undecorated}
+use Rattle.fin_tensor.specs.Canon.{Slice, kept, next, canon_parts, canon_values}
 use Rattle.fin_tensor.specs.Building.{no_format}
 use Rattle.fin_tensor.specs.Stands.{stands}
 use Rattle.fin_tensor.proofs.Tabulated.{tabulated_shape, tabulated_fill, stands_at}
@@ -19,9 +19,9 @@ use Rattle.fin_ast.specs.declared.checked.Checked.{Checked}
 use Rattle.fin_ast.specs.Kinds.{is_input}
 use Rattle.fin_ast.specs.Accepted.{inputs_among, HaveFormats, FitProgram}
 use Rattle.fin_ast.specs.Shaped.{AreShaped}
-use Rattle.fin_ast.specs.Dense.{Setting, made_at, inputs_by_header, setting_of, fill_of, shape_at}
+use Rattle.fin_ast.specs.Dense.{Setting, made_at, inputs_by_header, setting_of, shape_at}
 use Rattle.fin_stage.specs.Stages.{Stage, Absent, Built, Frozen, stage_at, frozen_in}
-use Rattle.fin_stage.specs.Staged.{Run, tensors_of, format_at}
+use Rattle.fin_stage.specs.Staged.{Run, format_at}
 use Rattle.fin_stage.specs.Fitting.{StageFits, StagesFit}
 use Rattle.fin_stage.proofs.Fits.{same_fill}
 use Rattle.fin_simp.specs.Work.{World, parts_by_header, frozen_parts, parts_or, parts_at, world_of}
@@ -157,9 +157,10 @@ module _ (c : Checked) (inputs : List Storage) (r : Run) (fit : FitProgram c inp
   by_input g =
       let stands_fill : f.fill ≡ g.storage.format.fill = ap (λ (x : TensorFunction). x.fill) g.function ∙ fill_is g.storage in
       let stands_shape : f.shape ≡ g.storage.shape = ap (λ (x : TensorFunction). x.shape) g.function ∙ shape_of g.storage in
-      let held : ArePartsOf g.storage.parts f = subst (ArePartsOf g.storage.parts) (sym g.function) (storage_stands g.storage) in
-      (record { shape = stands_shape ∙ g.shape; fill = stands_fill ∙ g.fill ∙ same_fill w (slice_get c.program.headers t) },
-      subst (λ (ps : List Part). ArePartsOf ps f) (sym (ap (λ (o : Option (List Part)). parts_or o (frozen_parts (stage_at r.stages t))) g.parts)) held)
+      let held : ArePartsOf g.storage.parts f = subst (ArePartsOf g.storage.parts) (sym g.function) (storage_stands g.storage) in (
+        record { shape = stands_shape ∙ g.shape; fill = stands_fill ∙ g.fill ∙ same_fill w (slice_get c.program.headers t) },
+        subst (λ (ps : List Part). ArePartsOf ps f) (sym (ap (λ (o : Option (List Part)). parts_or o (frozen_parts (stage_at r.stages t))) g.parts)) held,
+      )
 
   by_stage : (x : Stage) → StageFits w t x → frozen_in x ≡ Some f → Both (frozen_parts x)
   by_stage Absent s e = cc

@@ -1,28 +1,25 @@
 -- The run by pieces follows the run by stages, where what is carried through the run holds at its outset.
-use Rattle.std.proofs.Common.{◌≡◌, ◌<◌, ◌≤◌, ◌+◌, ◌-◌, ℕ, zero, suc, ℤ, pos, Bool, true, false, ◌||◌, List, [], ◌∷◌, map, length, Option, Some, None, refl, sym, ap, ◌∙◌, subst, arith, if◌then◌else◌}
-use Rattle.std.specs.Prelude.{◌&&◌, IfSome, unwrap_or, slice_set}
+use Rattle.std.proofs.Common.{◌≡◌, ◌<◌, ◌≤◌, ◌+◌, ◌-◌, ℕ, zero, suc, ℤ, pos, Bool, true, false, ◌||◌, List, [], ◌∷◌, map, Option, Some, None, refl, sym, ap, ◌∙◌, subst, arith, if◌then◌else◌}
+use Rattle.std.specs.Prelude.{IfSome, slice_set}
 use Rattle.std.specs.Ordering.{int_eq}
-use Rattle.fin_base.specs.Words.{identity, apply}
+use Rattle.fin_base.specs.Words.{identity}
 use Rattle.fin_base.specs.declared.reduce.Reduce.{Reduce}
-use Rattle.fin_tensor.specs.Building.{Building}
 use Rattle.fin_tensor.specs.TensorFunction.{TensorFunction}
 use Rattle.fin_ast.specs.declared.tree.Index.{Index}
 use Rattle.fin_ast.specs.declared.tree.Expr.{Expr}
 use Rattle.fin_ast.specs.declared.tree.Stmt.{Stmt}
 use Rattle.fin_ast.specs.declared.tree.Stmt.TheOpen.{Stmt-F}
 use Rattle.fin_ast.specs.declared.tree.Stmt.TheVariants as s
-use Rattle.fin_ast.specs.Value.{Numbers, Tensors, place, coordinates, value_of}
+use Rattle.fin_ast.specs.Value.{Numbers, place, value_of}
 use Rattle.fin_ast.specs.Actions.{Leaf, Declare, Freeze, Thaw, Update, in_turn, where_holds, where_bound}
 use Rattle.fin_ast.specs.Dense.{Setting, range_of}
 use Rattle.fin_ast.proofs.Acting.{act_block, act_loop, act_cond, act_bind, act_declare, act_freeze, act_thaw, act_update}
-use Rattle.fin_ast.proofs.Induction.{AllOf, Cases, by_kind, all_by_kind}
+use Rattle.fin_ast.proofs.Induction.{AllOf, Cases, all_by_kind}
 use Rattle.fin_ast.proofs.InBox.{in_box}
-use Rattle.fin_ast.proofs.Alike.{act_is}
-use Rattle.fin_stage.specs.Stages.{Built, stage_at, function_in}
-use Rattle.fin_stage.specs.Staged.{Run, Action, worked, regular, tensors_of, can_read, has_small_indices, asked_to_read, asked_for_small, are_small, with_value, braced, repeated, update, leaf, staging, stage_of, stage_all}
+use Rattle.fin_stage.specs.Stages.{stage_at, function_in}
+use Rattle.fin_stage.specs.Staged.{Run, Action, worked, regular, tensors_of, can_read, asked_for_small, are_small, braced, repeated, update, leaf, staging, stage_of, stage_all}
 use Rattle.fin_stage.specs.Trailing.{skipped, ChangesNothing}
-use Rattle.fin_stage.proofs.Alive.{left, right}
-use Rattle.fin_stage.proofs.Onward.{Onward, onward_still, onward_then, either_goes_on, braced_goes_on, repeated_goes_on, parts_go_on, all_go_on, Goes, small_goes_on, update_goes_on, asked_goes_on}
+use Rattle.fin_stage.proofs.Onward.{Onward, onward_then, braced_goes_on, repeated_goes_on, all_go_on, Goes, small_goes_on, update_goes_on}
 use Rattle.fin_stage.proofs.Trailing.{regular_before, skip_trails}
 use Rattle.fin_simp.specs.Numbered.{Here, behind, behind_test, past_stmt}
 use Rattle.fin_simp.specs.Left.{Marks, binding, fails}
@@ -30,7 +27,7 @@ use Rattle.fin_simp.specs.Simplified.{is_some_number}
 use Rattle.fin_simp.specs.Remaining.{literal_of, settled_literal, test_literal, is_identity_literal, nothing_step, is_nothing, are_nothing}
 use Rattle.fin_simp.specs.Rest.{Rest, is_none_kind, expr_rest, test_rest}
 use Rattle.fin_simp.specs.Laws.{IsGood}
-use Rattle.fin_simp.specs.Work.{World, Context, Worked, Entered, work_step, rests_in, all_of, enter, entry_of, turn, turns, is_fixed, costing, first_share, inside, marks_within, marks_at, ends_after, literal_in, chosen, bound, done}
+use Rattle.fin_simp.specs.Work.{World, Context, Worked, Entered, work_step, rests_in, all_of, enter, entry_of, turns, is_fixed, costing, first_share, inside, marks_within, marks_at, ends_after, literal_in, chosen, bound, done}
 use Rattle.fin_simp.specs.Moving.{worked_all}
 use Rattle.fin_simp.proofs.Equations.{at_block, at_loop, at_cond, at_bind, at_declare, at_freeze, at_thaw, at_update}
 use Rattle.fin_simp.proofs.Literals.{same_number, rest_literal}
@@ -38,70 +35,8 @@ use Rattle.fin_simp.proofs.Worth.{unchanged}
 use Rattle.fin_work.specs.Following.{Follows}
 use Rattle.fin_work.proofs.Following.{at_work, SameDone, to_trails, from_trails, follows_same, same_follows, leaf_follows, same_tensors, closed_follows, closed_skips}
 use Rattle.fin_work.proofs.Carrying.{worked_of, Carried, Looping, turned, pieced_turn, IsRight, IsRightTest, Carries}
-use Rattle.fin_work.proofs.Running.{nothing_are, inside_piece, outside_pieces, nothing_runs}
-
--- ---- what is asked of a value is there where the run stays regular
-asked_both : (b c : Bool) (r : Run) → regular (asked_for_small c (asked_to_read b r)) ≡ true → (b ≡ true) × (c ≡ true)
-asked_both true true r g = (refl, refl)
-asked_both true false r g = absurd (let h = right r.alive false (left (r.alive && false) r.ordered g) in cc)
-asked_both false true r g = absurd (let h = left (false && r.small) r.ordered g in cc)
-asked_both false false r g = absurd (let h = left (false && false) r.ordered g in cc)
-
-still_asked : (b c : Bool) (r : Run) → b ≡ true → c ≡ true → asked_for_small c (asked_to_read b r) ≡ r
-still_asked b c r p q = ap (λ (x : Bool). asked_for_small x (asked_to_read b r)) q ∙ ap (λ (x : Bool). asked_to_read x r) p
-
-small_still : (c : Bool) (r : Run) → regular (asked_for_small c r) ≡ true → c ≡ true
-small_still true r g = refl
-small_still false r g = absurd (let h = right r.alive false (left (r.alive && false) r.ordered g) in cc)
-
-paid : (n : ℕ) (r : Run) → SameDone r (worked n r)
-paid n r = record { stages = refl; regular = refl }
-
-unpaid : (n : ℕ) (r : Run) → SameDone (worked n r) r
-unpaid n r = record { stages = refl; regular = refl }
-
-all_same : (r : Run) → SameDone r r
-all_same r = record { stages = refl; regular = refl }
-
-module _ (w : World) where
-  abbrev set : Setting
-  set = w.setting
-
-  where_goes : (body : List Stmt) (vars : Numbers) (v : ℤ) → Goes set (where_holds (braced (stage_all set body)) vars v)
-  where_goes body vars v r = either_goes_on (int_eq v (pos 0)) r r (braced (stage_all set body) vars r) (onward_still r) (braced_goes_on (stage_all set body) (all_go_on set body) vars r)
-
-  stage_goes : (x : Stmt) (vars : Numbers) → Goes set (stage_of set x vars)
-  stage_goes x vars = act_is (staging set) (Goes set) (parts_go_on set) x vars
-
-  -- ---- a value that both runs ask for
-  pub record Valued (e : Expr) (vars : Numbers) (r : Run) (f : ℤ → Run → Run) : Type 0 where
-    pub read : can_read e (tensors_of set r) ≡ true
-    pub small : has_small_indices e vars ≡ true
-    pub is : with_value set e vars f r ≡ f (value_of e vars (tensors_of set r)) r
-
-  valued : (e : Expr) (vars : Numbers) (r : Run) (f : ℤ → Run → Run) → ((v : ℤ) → Goes set (f v)) → regular (with_value set e vars f r) ≡ true → Valued e vars r f
-  valued e vars r f on g =
-      let ts = tensors_of set r in
-      let v = value_of e vars ts in
-      let ready = asked_for_small (has_small_indices e vars) (asked_to_read (can_read e ts) r) in
-      let two = asked_both (can_read e ts) (has_small_indices e vars) r (regular_before ready (f v ready) (on v ready) g) in
-      record { read = two.0; small = two.1; is = ap (f v) (still_asked (can_read e ts) (has_small_indices e vars) r two.0 two.1) }
-
-  also_valued : (e : Expr) (vars : Numbers) (r r' : Run) (f f' : ℤ → Run → Run) → tensors_of set r ≡ tensors_of set r' → Valued e vars r f → with_value set e vars f' r' ≡ f' (value_of e vars (tensors_of set r)) r'
-  also_valued e vars r r' f f' same q =
-      ap (λ (ts : Tensors). f' (value_of e vars ts) (asked_for_small (has_small_indices e vars) (asked_to_read (can_read e ts) r'))) (sym same)
-      ∙ ap (f' (value_of e vars (tensors_of set r))) (still_asked (can_read e (tensors_of set r)) (has_small_indices e vars) r' q.read q.small)
-
-  -- ---- one statement by pieces: nothing, or what its kind does
-  piece : (x : Stmt) (h : Here) (y : Stmt-F Worked) → worked_of w x h ≡ work_step w h y → (ctx : Context) (vars : Numbers) (r' n : Run) → ((m : Marks) → ctx ≡ Some m → is_nothing x h m ≡ true → Follows n r')
-      → (((m : Marks) → ctx ≡ Some m → is_nothing x h m ≡ false) → Follows n (done w h y ctx vars r')) → Follows n ((worked_of w x h).run ctx vars r')
-  piece x h y is None vars r' n p q = outside_pieces w x h y is vars r' (Follows n) (q (λ m e. absurd (let z : ◌≡◌ {A = Context} None (Some m) = e in cc)))
-  piece x h y is (Some m) vars r' n p q =
-      inside_piece w x h y is vars r' (Follows n) m (p m refl)
-      (λ e. q (λ m' k. let same : m ≡ m' = ap (λ (o : Context). unwrap_or o m) k in subst (λ (z : Marks). is_nothing x h z ≡ false) same e))
-
-  abbrev at_marks : Marks → (Marks → Bool) → Bool
-  at_marks m f = f m
+use Rattle.fin_work.proofs.Running.{nothing_are, nothing_runs}
+use Rattle.fin_work.proofs.Asking.{small_still, paid, unpaid, all_same, where_goes, Valued, valued, also_valued, piece, at_marks}
 
 module _ (w : World) (I : Carried) (L : Looping) (carries : Carries w I L) where
   abbrev set' : Setting
@@ -223,9 +158,9 @@ module _ (w : World) (I : Carried) (L : Looping) (carries : Carries w I L) where
       subst (λ (n : Run). Follows n ((worked_of w x h).run ctx vars r')) (sym is)
       (piece w x h (Stmt-F.Update t at by value line) (at_update Worked (work_step w) t at by value line h) ctx vars r' (leaf set' (Update t at by value) vars r)
       (λ m k e.
-          let lit = some_literal t at by value line h vars r r' f (literal_of value h.read m) (sym (ap (at_marks w m) (at_update (Marks → Bool) nothing_step t at by value line h)) ∙ e)
-          (carries.update m t at by value line xs h vars r r' (subst (λ (o : Context). I o (x ∷ xs) h vars r r') k i) f q.read) in
-          skips t at by value line h vars r r' f (carries.good ctx (x ∷ xs) h vars r r' i t) lit.0 lit.1.0 lit.1.1 g')
+      let lit = some_literal t at by value line h vars r r' f (literal_of value h.read m) (sym (ap (at_marks w m) (at_update (Marks → Bool) nothing_step t at by value line h)) ∙ e)
+      (carries.update m t at by value line xs h vars r r' (subst (λ (o : Context). I o (x ∷ xs) h vars r r') k i) f q.read) in
+      skips t at by value line h vars r r' f (carries.good ctx (x ∷ xs) h vars r r' i t) lit.0 lit.1.0 lit.1.1 g')
       (λ n. leaf_follows set' (Update t at by value) vars r r' f g'))
 
   -- ---- tests
@@ -481,12 +416,12 @@ module _ (w : World) (I : Carried) (L : Looping) (carries : Carries w I L) where
       subst (λ (z : Run). Follows z ((worked_of w x h).run ctx vars r')) (sym is)
       (piece w x h (Stmt-F.Loop var range par pieces line last) (at_loop Worked (work_step w) var range par body line last h) ctx vars r' (by_stages_from ctx var par body all h vars r' n lo (worked 1 r))
       (λ m k q.
-          let none = sym (ap (at_marks w m) (at_loop (Marks → Bool) nothing_step var range par body line last h)) ∙ q in
-          let each : (c : ℕ) → is_none_kind (rest_at ctx var par body all h vars r' c).kind ≡ true =
-          λ c. nothing_are w body h (known ctx var par body all h vars r' c)
-          ∙ subst (λ (o : Context). are_nothing body h (known o var par body all h vars r' c) ≡ true) (sym k) (carries.nothing m var range par body line last xs h vars r r' c (subst (λ (o : Context). I o (x ∷ xs) h vars r r') k i) none) in
-          follows_same (by_stages_from ctx var par body all h vars r' n lo (worked 1 r)) start r' (unpaid (entry_of e) r')
-          (subst (Follows (by_stages_from ctx var par body all h vars r' n lo (worked 1 r))) (turns_rest ctx var par body all h vars r' n lo true start each) done_all))
+      let none = sym (ap (at_marks w m) (at_loop (Marks → Bool) nothing_step var range par body line last h)) ∙ q in
+      let each : (c : ℕ) → is_none_kind (rest_at ctx var par body all h vars r' c).kind ≡ true =
+      λ c. nothing_are w body h (known ctx var par body all h vars r' c)
+      ∙ subst (λ (o : Context). are_nothing body h (known o var par body all h vars r' c) ≡ true) (sym k) (carries.nothing m var range par body line last xs h vars r r' c (subst (λ (o : Context). I o (x ∷ xs) h vars r r') k i) none) in
+      follows_same (by_stages_from ctx var par body all h vars r' n lo (worked 1 r)) start r' (unpaid (entry_of e) r')
+      (subst (Follows (by_stages_from ctx var par body all h vars r' n lo (worked 1 r))) (turns_rest ctx var par body all h vars r' n lo true start each) done_all))
       (λ q. done_all))
 
   cases : Cases PieceFollows

@@ -1,5 +1,5 @@
 -- What the run by pieces does with a statement: nothing where nothing is left, and what its kind does elsewhere.
-use Rattle.std.proofs.Common.{◌≡◌, ℕ, Bool, true, false, ◌&&◌, List, [], ◌∷◌, map, Option, Some, None, refl, sym, ap, ◌∙◌, subst}
+use Rattle.std.proofs.Common.{◌≡◌, true, false, List, [], ◌∷◌, map, Some, None, refl, sym, ap, ◌∙◌, subst}
 use Rattle.fin_ast.specs.declared.tree.Stmt.{Stmt}
 use Rattle.fin_ast.specs.declared.tree.Stmt.TheOpen.{Stmt-F}
 use Rattle.fin_ast.specs.declared.tree.Stmt.TheVariants as s
@@ -12,7 +12,7 @@ use Rattle.fin_simp.specs.Numbered.{Here, behind, behind_test, past_stmt}
 use Rattle.fin_simp.specs.Left.{Marks}
 use Rattle.fin_simp.specs.Remaining.{is_nothing, are_nothing}
 use Rattle.fin_simp.specs.Rest.{Kind, Nothing, OneUpdate, Other, Rest, is_none_kind, all_rest, rest_step, rest_of}
-use Rattle.fin_simp.specs.Work.{World, Context, Worked, work_step, rests_in, unless_nothing, done}
+use Rattle.fin_simp.specs.Work.{World, Worked, work_step, rests_in, unless_nothing, done}
 use Rattle.fin_simp.specs.Moving.{worked_all}
 use Rattle.fin_simp.proofs.Equations.{at_block, at_loop, at_cond, at_bind, at_declare, at_freeze, at_thaw, at_update}
 use Rattle.fin_simp.proofs.Resting.{rest_agrees, rests_agree}

@@ -1,20 +1,19 @@
 -- The run by pieces of an accepted program is sound.
-use Rattle.std.proofs.Common.{◌≡◌, ◌≤◌, ◌<◌, ℕ, zero, suc, ℤ, pos, Bool, true, false, List, [], ◌∷◌, map, length, Option, None, refl, sym, ap, ◌∙◌, subst, arith}
+use Rattle.std.proofs.Common.{◌≡◌, ◌≤◌, ℕ, zero, suc, pos, true, false, List, [], ◌∷◌, map, length, None, refl, sym, ap, ◌∙◌, subst, arith}
 use Rattle.std.specs.Prelude.{IfSome}
 use Rattle.fin_base.specs.Words.{IsWord}
 use Rattle.fin_tensor.specs.declared.storage.Storage.{Storage}
-use Rattle.fin_ast.specs.declared.header.Header.{Header}
 use Rattle.fin_ast.specs.declared.checked.Checked.{Checked}
 use Rattle.fin_ast.specs.declared.checked.Dims.{Dims}
 use Rattle.fin_ast.specs.Accepted.{IsAccepted, FitProgram}
 use Rattle.fin_ast.specs.Bindings.{bindings_of_all}
 use Rattle.fin_ast.specs.Infer.{places_in}
-use Rattle.fin_ast.specs.Scope.{outermost, is_among}
+use Rattle.fin_ast.specs.Scope.{outermost}
 use Rattle.fin_ast.specs.Sizes.{ranges_of}
-use Rattle.fin_ast.specs.Dense.{setting_of, unbound, evaluated, made_at}
-use Rattle.fin_ast.specs.Value.{Numbers, number}
-use Rattle.fin_stage.specs.Stages.{Stage, Absent, stage_at, function_in}
-use Rattle.fin_stage.specs.Staged.{Run, before_all, staged, regular}
+use Rattle.fin_ast.specs.Dense.{setting_of, unbound}
+use Rattle.fin_ast.specs.Value.{number}
+use Rattle.fin_stage.specs.Stages.{Stage, function_in}
+use Rattle.fin_stage.specs.Staged.{Run, before_all, staged}
 use Rattle.fin_stage.specs.Sound.{IsSound}
 use Rattle.fin_stage.specs.Wordy.{IsWordTensor, IsWordy}
 use Rattle.fin_stage.proofs.Fits.{nothing_fits, absent_at}
@@ -24,7 +23,7 @@ use Rattle.fin_stage.proofs.Trailing.{run_itself}
 use Rattle.fin_simp.specs.Numbered.{outset}
 use Rattle.fin_simp.specs.Work.{World, world_of, pieced}
 use Rattle.fin_work.specs.Following.{Follows}
-use Rattle.fin_work.specs.Sound.{PiecedIsSound, PiecesAreSound}
+use Rattle.fin_work.specs.Sound.{PiecedIsSound}
 use Rattle.fin_work.proofs.Following.{from_trails, same_function}
 use Rattle.fin_work.proofs.Holding.{Held}
 use Rattle.fin_work.proofs.Known.{Table, nothing_right}

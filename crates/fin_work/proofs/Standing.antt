@@ -1,13 +1,13 @@
 -- A run by pieces leaves what can be read of a tensor as it was, where what is left of the body doesn't change the tensor.
-use Rattle.std.proofs.Common.{◌≡◌, ◌≢◌, ◌+◌, ◌-◌, ℕ, zero, suc, ℤ, pos, Bool, true, false, ◌||◌, ◌&&◌, List, [], ◌∷◌, ◌++◌, map, Option, Some, None, refl, sym, ap, ◌∙◌, subst, inl, inr, ◌⊎◌, if◌then◌else◌, arith}
+use Rattle.std.proofs.Common.{◌≡◌, ◌≢◌, ◌+◌, ℕ, zero, suc, ℤ, pos, Bool, true, false, ◌||◌, ◌&&◌, List, [], ◌∷◌, ◌++◌, map, Option, Some, None, refl, sym, ap, ◌∙◌, subst, inl, inr, ◌⊎◌, if◌then◌else◌, arith}
 use Rattle.std.specs.Prelude.{IfSome, nat_eq, slice_set, filter_map, option_map}
 use Rattle.std.specs.List.{cons_option}
 use Rattle.std.specs.Option.{option_or}
 use Rattle.std.specs.Ordering.{int_eq}
 use Rattle.std.proofs.lemmas.Bool.Decides.{nat_tests}
-use Rattle.fin_base.specs.Words.{IsWord, apply}
+use Rattle.fin_base.specs.Words.{IsWord}
 use Rattle.fin_base.specs.declared.reduce.Reduce.{Reduce}
-use Rattle.fin_tensor.specs.Building.{Building, follows, updated}
+use Rattle.fin_tensor.specs.Building.{Building, follows}
 use Rattle.fin_tensor.specs.TensorFunction.{TensorFunction}
 use Rattle.fin_ast.specs.declared.tree.Index.{Index}
 use Rattle.fin_ast.specs.declared.tree.Expr.{Expr}
@@ -16,19 +16,19 @@ use Rattle.fin_ast.specs.declared.tree.Stmt.TheOpen.{Stmt-F}
 use Rattle.fin_ast.specs.declared.tree.Stmt.TheVariants as s
 use Rattle.fin_ast.specs.Value.{Numbers, place, coordinates, value_of}
 use Rattle.fin_ast.specs.Literals.{is_worded, all_hold, worded_stmt_step, is_worded_stmt}
-use Rattle.fin_ast.specs.Actions.{Declare, Freeze, Thaw, Update, in_turn}
-use Rattle.fin_ast.specs.Dense.{Setting, fill_of, shape_at, range_of}
+use Rattle.fin_ast.specs.Actions.{in_turn}
+use Rattle.fin_ast.specs.Dense.{Setting, fill_of}
 use Rattle.fin_ast.proofs.Nodes as node
 use Rattle.fin_ast.proofs.Induction.{AllOf, Cases, by_kind, all_by_kind}
-use Rattle.fin_stage.specs.Stages.{Stage, Absent, Built, Frozen, stage_at, frozen_in, is_declared, kept}
-use Rattle.fin_stage.specs.Staged.{Run, worked, with_stage, unalive, unordered, tensors_of, can_read, has_small_indices, asked_to_read, asked_for_small, are_small, is_made, declare, freeze_at, thaw_at, thaw, put_at, update_at, update, leaf}
+use Rattle.fin_stage.specs.Stages.{Stage, Absent, Built, Frozen, stage_at, frozen_in, kept}
+use Rattle.fin_stage.specs.Staged.{Run, worked, with_stage, unalive, unordered, tensors_of, can_read, has_small_indices, asked_to_read, asked_for_small, are_small, is_made, declare, freeze_at, thaw_at, thaw, put_at, update_at, update}
 use Rattle.fin_stage.proofs.Fits.{set_cases}
 use Rattle.fin_simp.specs.Numbered.{Here, behind, behind_test, past_stmt}
 use Rattle.fin_simp.specs.Left.{Marks, binding, fails, as_expr, left_of}
-use Rattle.fin_simp.specs.Remaining.{literal_of, settled_literal, test_literal, nothing_step, is_nothing, are_nothing}
+use Rattle.fin_simp.specs.Remaining.{literal_of, settled_literal, nothing_step, is_nothing, are_nothing}
 use Rattle.fin_simp.specs.Rest.{Access, ExprRest, Test, Rest, is_none_kind, nothing, no_expr, within_kind, chosen_rest, let_rest, test_rest, expr_rest, rest_step, rest_of}
 use Rattle.fin_simp.specs.Wording.{KnowsWords, StaysIn, Further}
-use Rattle.fin_simp.specs.Work.{World, Context, Driven, Entered, Worked, work_step, is_in, driven_at, driven_by, gap_among, sight_of, marks_at, rests_in, enter, entry_of, turn, turns, is_fixed, costing, first_share, ends_after, all_of, marks_within, inside, literal_in, chosen, bound, done}
+use Rattle.fin_simp.specs.Work.{World, Context, Driven, Entered, Worked, work_step, is_in, driven_at, driven_by, gap_among, sight_of, marks_at, rests_in, enter, entry_of, turn, turns, is_fixed, costing, first_share, ends_after, all_of, chosen, bound, done}
 use Rattle.fin_simp.specs.Sights.{Sight, driven_index}
 use Rattle.fin_simp.specs.Moving.{worked_all}
 use Rattle.fin_simp.proofs.Equations.{at_block, at_loop, at_cond, at_bind, at_declare, at_freeze, at_thaw, at_update}
@@ -273,10 +273,10 @@ module _ (t : ℕ) where
             let r1 = rests body h (binding m var None) in
             as_done (s.Loop var range par body line last) h (Stmt-F.Loop var range par (worked_all w body h) line last) (at_loop Worked (work_step w) var range par body line last h) m vars r
             (λ z.
-                let some = rests_agree body h (binding m var None) ∙ sym (ap (at_marks m) (at_loop (Marks → Bool) nothing_step var range par body line last h)) ∙ z in
-                let free = out_of_within t r1.kind no_expr [] r1 some (moved _ (within_kind r1.kind no_expr [] r1) (ap (at_rest m) (at_loop (Marks → Rest) rest_step var range par body line last h)) f) in
-                let e = enter w (Some (binding m var None)) var par (worked_all w body h) vars r in
-                turns_keep var par body all (sym (node.of_loop Bool worded_stmt_step var range par body line last) ∙ q) h m k vars r free e.len true e.lo (worked (entry_of e) r));
+            let some = rests_agree body h (binding m var None) ∙ sym (ap (at_marks m) (at_loop (Marks → Bool) nothing_step var range par body line last h)) ∙ z in
+            let free = out_of_within t r1.kind no_expr [] r1 some (moved _ (within_kind r1.kind no_expr [] r1) (ap (at_rest m) (at_loop (Marks → Rest) rest_step var range par body line last h)) f) in
+            let e = enter w (Some (binding m var None)) var par (worked_all w body h) vars r in
+            turns_keep var par body all (sym (node.of_loop Bool worded_stmt_step var range par body line last) ∙ q) h m k vars r free e.len true e.lo (worked (entry_of e) r));
         cond = λ test body line last all q h m k f vars r.
             let inner = behind_test test h in
             let both = sym (node.of_cond Bool worded_stmt_step test body line last) ∙ q in
@@ -284,10 +284,10 @@ module _ (t : ℕ) where
             let r1 = rests body inner m in
             as_done (s.Cond test body line last) h (Stmt-F.Cond test (worked_all w body inner) line last) (at_cond Worked (work_step w) test body line last h) m vars r
             (λ z.
-                let open_test = ap (λ (o : Option ℤ). fails (settled_literal (m.tests h.test) o) || are_nothing body inner m) (rest_literal test h.read m) ∙ sym (ap (at_marks m) (at_cond (Marks → Bool) nothing_step test body line last h)) ∙ z in
-                let free = free_chosen (test_rest test h m) (expr_rest test h.read m) (record { test = h.test; expr = as_expr (left_of test h.read m) }) r1 (are_nothing body inner m) (rests_agree body inner m) open_test
-                (moved _ _ (ap (at_rest m) (at_cond (Marks → Rest) rest_step test body line last h)) f) in
-                chosen_keeps body all qb inner m k free (test_rest test h m) test vars r);
+            let open_test = ap (λ (o : Option ℤ). fails (settled_literal (m.tests h.test) o) || are_nothing body inner m) (rest_literal test h.read m) ∙ sym (ap (at_marks m) (at_cond (Marks → Bool) nothing_step test body line last h)) ∙ z in
+            let free = free_chosen (test_rest test h m) (expr_rest test h.read m) (record { test = h.test; expr = as_expr (left_of test h.read m) }) r1 (are_nothing body inner m) (rests_agree body inner m) open_test
+            (moved _ _ (ap (at_rest m) (at_cond (Marks → Rest) rest_step test body line last h)) f) in
+            chosen_keeps body all qb inner m k free (test_rest test h m) test vars r);
         bind = λ var value body line last all q h m k f vars r.
             let inner = behind value h in
             let both = sym (node.of_bind Bool worded_stmt_step var value body line last) ∙ q in
@@ -298,8 +298,8 @@ module _ (t : ℕ) where
             let words = subst (λ (p : Option ℤ). KnowsWords (binding m var p)) (sym (rest_literal value h.read m)) (binding_words m var (literal_of value h.read m) (literal_is_word value qv h.read m k) k) in
             as_done (s.Bind var value body line last) h (Stmt-F.Bind var value (worked_all w body inner) line last) (at_bind Worked (work_step w) var value body line last h) m vars r
             (λ z.
-                let some = rests_agree body inner n ∙ ap (λ (p : Option ℤ). are_nothing body inner (binding m var p)) (rest_literal value h.read m) ∙ sym (ap (at_marks m) (at_bind (Marks → Bool) nothing_step var value body line last h)) ∙ z in
-                bound_keeps body all qb inner n words (free_let o (expr_rest value h.read m) (rests body inner n) some (moved _ _ (ap (at_rest m) (at_bind (Marks → Rest) rest_step var value body line last h)) f)) o var value vars r);
+            let some = rests_agree body inner n ∙ ap (λ (p : Option ℤ). are_nothing body inner (binding m var p)) (rest_literal value h.read m) ∙ sym (ap (at_marks m) (at_bind (Marks → Bool) nothing_step var value body line last h)) ∙ z in
+            bound_keeps body all qb inner n words (free_let o (expr_rest value h.read m) (rests body inner n) some (moved _ _ (ap (at_rest m) (at_bind (Marks → Rest) rest_step var value body line last h)) f)) o var value vars r);
         declare = λ u value line q h m k f vars r.
             as_done (s.Declare u value line) h (Stmt-F.Declare u value line) (at_declare Worked (work_step w) u value line h) m vars r (λ z. declare_keeps u r (alone u (moved _ _ (ap (at_rest m) (at_declare (Marks → Rest) rest_step u value line h)) f)));
         freeze = λ u line q h m k f vars r.
@@ -309,8 +309,8 @@ module _ (t : ℕ) where
         update = λ u at by value line q h m k f vars r.
             as_done (s.Update u at by value line) h (Stmt-F.Update u at by value line) (at_update Worked (work_step w) u at by value line h) m vars r
             (λ z.
-                let ready = asked_for_small (has_small_indices value vars) (asked_to_read (can_read value (tensors_of set r)) r) in
-                update_keeps u (map (place vars) at) by (value_of value vars (tensors_of set r)) (asked_for_small (are_small vars at) ready) ∙ small_keeps (are_small vars at) ready ∙ asked_keeps value vars r);
+            let ready = asked_for_small (has_small_indices value vars) (asked_to_read (can_read value (tensors_of set r)) r) in
+            update_keeps u (map (place vars) at) by (value_of value vars (tensors_of set r)) (asked_for_small (are_small vars at) ready) ∙ small_keeps (are_small vars at) ready ∙ asked_keeps value vars r);
       }
 
       pub piece_keeps : (x : Stmt) → Stays x

@@ -1,5 +1,5 @@
 -- What is held of statements is held of those behind the first, and of the bodies in it.
-use Rattle.std.proofs.Common.{◌≡◌, ◌≢◌, ◌<◌, ◌≤◌, ◌+◌, ℕ, ℤ, pos, Bool, true, false, ◌&&◌, ◌||◌, List, [], ◌∷◌, ◌++◌, map, length, Option, Some, None, refl, sym, ap, ◌∙◌, subst, arith, if◌then◌else◌}
+use Rattle.std.proofs.Common.{◌≡◌, ◌≤◌, ◌+◌, ℕ, ℤ, pos, Bool, true, false, ◌&&◌, ◌||◌, List, ◌∷◌, ◌++◌, map, length, Option, Some, None, refl, sym, ap, ◌∙◌, subst, arith, if◌then◌else◌}
 use Rattle.std.specs.Prelude.{IfSome, nat_eq, slice_set, ◌==◌}
 use Rattle.std.specs.Option.{option_or}
 use Rattle.std.specs.Ordering.{int_eq}
@@ -34,7 +34,7 @@ use Rattle.fin_stage.proofs.Wordy.{stage_wordy}
 use Rattle.fin_simp.specs.Numbered.{Here, behind, behind_test, past_stmt}
 use Rattle.fin_simp.specs.Left.{Marks, binding, fails, as_expr, left_of}
 use Rattle.fin_simp.specs.Remaining.{literal_of, settled_literal, test_literal}
-use Rattle.fin_simp.specs.Rest.{Access, Rest, Test, rest_step, rest_of, expr_rest, test_rest, reads_of, written_step, written}
+use Rattle.fin_simp.specs.Rest.{Access, Rest, rest_step, rest_of, expr_rest, test_rest, reads_of, written_step, written}
 use Rattle.fin_simp.specs.Laws.{IsGood}
 use Rattle.fin_simp.specs.Work.{World, Context, is_in, world_of, inside, literal_in, marks_within}
 use Rattle.fin_simp.proofs.Equations.{at_block, at_cond, at_bind, at_update}
@@ -42,15 +42,14 @@ use Rattle.fin_simp.proofs.Literals.{rest_literal}
 use Rattle.fin_simp.proofs.Mentions.{rests}
 use Rattle.fin_simp.proofs.Staying.{binding_words, literal_is_word}
 use Rattle.fin_simp.specs.Right.{right_expr}
-use Rattle.fin_work.specs.Changing.{changed_by}
 use Rattle.fin_work.specs.Following.{Follows}
 use Rattle.fin_work.proofs.Carrying.{worked_of, IsRight, IsRightTest}
 use Rattle.fin_work.proofs.Changing.{quiet, free_append}
 use Rattle.fin_work.proofs.Following.{SameDone}
 use Rattle.fin_work.proofs.Holding.{Held, sees, reads_part, tests_part, right_here, number_of, chosen_back, let_back}
 use Rattle.fin_work.proofs.Known.{Below, TestRight, Table, Matches, Known, literal_right, value_word, test_right, nothing_right}
-use Rattle.fin_work.proofs.Looking.{Look, looks_of, looks, AllLooks, looks_first, looks_second, looks_block, looks_cond, looks_bind}
-use Rattle.fin_work.proofs.Numbering.{AllReads, texts, reads_first, reads_second}
+use Rattle.fin_work.proofs.Looking.{looks_of, looks, AllLooks, looks_first, looks_second, looks_block, looks_cond, looks_bind}
+use Rattle.fin_work.proofs.Numbering.{texts, reads_first, reads_second}
 use Rattle.fin_work.proofs.Standing.{frozen_of, piece_keeps}
 
 pub split_free : (t : ℕ) (xs ys : List ℕ) → is_in (xs ++ ys) t ≡ false → (is_in xs t ≡ false) × (is_in ys t ≡ false)
@@ -87,7 +86,14 @@ module _ (c : Checked) (inputs : List Storage) (fit : FitProgram c inputs) (word
 
   pub held_work : (ctx : Context) (xs : List Stmt) (h : Here) (vars : Numbers) (r r' n n' : Run) → H ctx xs h vars r r' → SameDone r n → SameDone r' n' → H ctx xs h vars n n'
   held_work ctx xs h vars r r' n n' i a b = record {
-    sc = i.sc; next = i.next; named = i.named; counts = i.counts; enough = i.enough; below = i.below; worded = i.worded; numbers = i.numbers;
+    sc = i.sc;
+    next = i.next;
+    named = i.named;
+    counts = i.counts;
+    enough = i.enough;
+    below = i.below;
+    worded = i.worded;
+    numbers = i.numbers;
     fits = subst (StagesFit set) (sym a.stages) i.fits;
     good = subst AreWordy (sym a.stages) i.good;
     matches = i.matches;
@@ -238,9 +244,9 @@ module _ (c : Checked) (inputs : List Storage) (fit : FitProgram c inputs) (word
       free = i.known.free;
       reads = reads_part c inputs fit wordy T (tested ∷ xs) body h inner m m i.sc.loops i.next i.next vars vars r' r' i.known (λ j. refl) (λ later b. b)
           (λ t k.
-              let kept = subst (λ (z : Rest). is_in z.changed t ≡ false) (ap (at_rest m) (at_cond (Marks → Rest) rest_step test body line last h)) (split_free t (rest_of tested h m).changed (rests xs (past_stmt tested h) m).changed k).0 in
-              let open_test = ap (λ (o : Option ℤ). fails (settled_literal (m.tests h.test) o)) (rest_literal test h.read m) ∙ not_fails (test_literal test h m) (held_test m i f can) e in
-              (chosen_back t (test_rest test h m) (expr_rest test h.read m) (record { test = h.test; expr = as_expr (left_of test h.read m) }) (rests body inner m) open_test (quiet body inner m) kept, refl));
+          let kept = subst (λ (z : Rest). is_in z.changed t ≡ false) (ap (at_rest m) (at_cond (Marks → Rest) rest_step test body line last h)) (split_free t (rest_of tested h m).changed (rests xs (past_stmt tested h) m).changed k).0 in
+          let open_test = ap (λ (o : Option ℤ). fails (settled_literal (m.tests h.test) o)) (rest_literal test h.read m) ∙ not_fails (test_literal test h m) (held_test m i f can) e in
+          (chosen_back t (test_rest test h m) (expr_rest test h.read m) (record { test = h.test; expr = as_expr (left_of test h.read m) }) (rests body inner m) open_test (quiet body inner m) kept, refl));
       tests = (subst (AllLooks (TestRight m i.next vars)) (looks_cond m h test body line last) (looks_first (TestRight m i.next vars) (looks_of tested h m) (looks xs (past_stmt tested h) m) i.known.tests)).1;
     }
 
@@ -339,9 +345,9 @@ module _ (c : Checked) (inputs : List Storage) (fit : FitProgram c inputs) (word
       free = λ k e. free_by k (nat_eq k var) refl e;
       reads = reads_part c inputs fit wordy T (let_of ∷ xs) body h after m (binding m var o) i.sc.loops i.next (i.next + 1) vars vars' r' r' i.known (λ j. refl) (outer_numbers (Some m) i)
           (λ t k.
-              let ex = expr_rest value h.read m in
-              let kept = subst (λ (z : Rest). is_in z.changed t ≡ false) (ap (at_rest m) (at_bind (Marks → Rest) rest_step var value body line last h)) (split_free t (rest_of let_of h m).changed (rests xs (past_stmt let_of h) m).changed k).0 in
-              (subst (λ (p : Option ℤ). is_in (rests body after (binding m var p)).changed t ≡ false) (rest_literal value h.read m) (let_back t ex.literal ex (rests body after (binding m var ex.literal)) (quiet body after (binding m var ex.literal)) kept), refl));
+          let ex = expr_rest value h.read m in
+          let kept = subst (λ (z : Rest). is_in z.changed t ≡ false) (ap (at_rest m) (at_bind (Marks → Rest) rest_step var value body line last h)) (split_free t (rest_of let_of h m).changed (rests xs (past_stmt let_of h) m).changed k).0 in
+          (subst (λ (p : Option ℤ). is_in (rests body after (binding m var p)).changed t ≡ false) (rest_literal value h.read m) (let_back t ex.literal ex (rests body after (binding m var ex.literal)) (quiet body after (binding m var ex.literal)) kept), refl));
       tests = tests_part c inputs fit wordy T m i.next (i.next + 1) vars vars' (outer_numbers (Some m) i) (looks body after (binding m var o))
           (subst (λ (p : Option ℤ). AllLooks (TestRight m i.next vars) (looks body after (binding m var p))) (rest_literal value h.read m)
           (subst (AllLooks (TestRight m i.next vars)) (looks_bind m h var value body line last) (looks_first (TestRight m i.next vars) (looks_of let_of h m) (looks xs (past_stmt let_of h) m) i.known.tests)));

@@ -1,5 +1,5 @@
 -- What is held of a loop from coordinate to coordinate, and that all of it is carried through a run by pieces.
-use Rattle.std.proofs.Common.{◌≡◌, ◌<◌, ◌≤◌, ◌+◌, ℕ, ℤ, pos, Bool, true, false, ◌&&◌, ◌||◌, List, [], ◌∷◌, map, length, Option, Some, None, refl, sym, ap, ◌∙◌, subst, arith, if◌then◌else◌}
+use Rattle.std.proofs.Common.{◌≡◌, ◌<◌, ◌≤◌, ◌+◌, ℕ, ℤ, pos, Bool, true, false, ◌||◌, List, [], ◌∷◌, map, length, Option, Some, None, refl, sym, ap, ◌∙◌, subst, arith, if◌then◌else◌}
 use Rattle.std.specs.Prelude.{IfSome, nat_eq, slice_set, ◌==◌}
 use Rattle.std.proofs.Math.ListN.{length-set}
 use Rattle.std.proofs.lemmas.Bool.Decides.{nat_tests}
@@ -20,7 +20,7 @@ use Rattle.fin_ast.proofs.Acting.{act_block}
 use Rattle.fin_ast.proofs.Alike.{Numbered}
 use Rattle.fin_ast.proofs.Nodes as node
 use Rattle.fin_stage.specs.Stages.{Stage, stage_at, frozen_in}
-use Rattle.fin_stage.specs.Staged.{Run, worked, regular, tensors_of, staging}
+use Rattle.fin_stage.specs.Staged.{Run, worked, tensors_of, staging}
 use Rattle.fin_stage.specs.Fitting.{StagesFit}
 use Rattle.fin_stage.specs.Wordy.{IsWordy, AreWordy}
 use Rattle.fin_stage.proofs.Alive.{left, right}
@@ -28,7 +28,7 @@ use Rattle.fin_stage.proofs.Fits.{braced_fits}
 use Rattle.fin_stage.proofs.Small.{counts_split}
 use Rattle.fin_stage.proofs.Wordy.{stage_wordy}
 use Rattle.fin_simp.specs.Numbered.{Here, past_stmt}
-use Rattle.fin_simp.specs.Left.{Marks, nothing_known, binding}
+use Rattle.fin_simp.specs.Left.{Marks, binding}
 use Rattle.fin_simp.specs.Rest.{Rest, is_none_kind, no_expr, rest_step, rest_of, written_step, written}
 use Rattle.fin_simp.specs.Work.{World, Context, Worked, Entered, is_in, world_of, rests_in, all_of, enter, is_fixed, costing, first_share, inside, marks_within, marks_at}
 use Rattle.fin_simp.specs.Moving.{worked_all}
@@ -42,7 +42,7 @@ use Rattle.fin_work.proofs.Changing.{quiet, fewer_change}
 use Rattle.fin_work.proofs.Coordinates.{Entry, entered, known_at}
 use Rattle.fin_work.proofs.Following.{SameDone}
 use Rattle.fin_work.proofs.Holding.{Held, reads_part, tests_part, number_of, within_back, also_fits}
-use Rattle.fin_work.proofs.Known.{Below, TestRight, Table, Matches, Known, nothing_right}
+use Rattle.fin_work.proofs.Known.{TestRight, Table, Matches, Known, nothing_right}
 use Rattle.fin_work.proofs.Looking.{looks_of, looks, AllLooks, looks_first, looks_loop}
 use Rattle.fin_work.proofs.Numbering.{texts, reads_first}
 use Rattle.fin_work.proofs.Standing.{frozen_of, further_at, words_at, pieces_keep}
@@ -111,7 +111,7 @@ module _ (c : Checked) (inputs : List Storage) (fit : FitProgram c inputs) (word
 
   -- ---- the next coordinate
   module _ (ctx : Context) (var : ℕ) (body : List Stmt) (h : Here) (vars : Numbers) (par : Bool) (entry : Run) (worded : all_hold (map is_worded_stmt body) ≡ true) (k : ℕ) (m : Marks) (r : Run)
-    (t : ℕ) (here_free : is_in (changed_by body h m) t ≡ false) where
+      (t : ℕ) (here_free : is_in (changed_by body h m) t ≡ false) where
     abbrev parts : List Worked
     parts = worked_all w body h
 
@@ -124,14 +124,26 @@ module _ (c : Checked) (inputs : List Storage) (fit : FitProgram c inputs) (word
   goes_on : (ctx : Context) (var : ℕ) (body : List Stmt) (h : Here) (vars : Numbers) (e : Entered) (k : ℕ) (r r' : Run) (begins : Bool) → Turning ctx var body h vars e k r r' → k < (range_of set var).1
       → Turning ctx var body h vars e (k + 1) (turned w var body vars k r) (pieced_turn w ctx body h vars e begins k r')
   goes_on ctx var body h vars e k r r' begins l high = record {
-    sc = l.sc; par = l.par; entry = l.entry; loop_is = l.loop_is; entry_fits = l.entry_fits; named = l.named; counts = l.counts; room = l.room; below = l.below; worded = l.worded; numbers = l.numbers;
+    sc = l.sc;
+    par = l.par;
+    entry = l.entry;
+    loop_is = l.loop_is;
+    entry_fits = l.entry_fits;
+    named = l.named;
+    counts = l.counts;
+    room = l.room;
+    below = l.below;
+    worded = l.worded;
+    numbers = l.numbers;
     fits = braced_fits set body (slice_set vars var (pos k)) (worked 1 r) l.fits;
     good = subst (λ (z : Run). AreWordy z.stages) (act_block (staging set) (slice_set vars var (pos k)) (worked 1 r) body 0 0)
         (stage_wordy set wordy (s.Block body 0 0) (node.of_block Bool worded_stmt_step body 0 0 ∙ l.worded) (slice_set vars var (pos k)) (number_of vars var (pos k) IsWord l.numbers (word_at var k high)) (worked 1 r) l.good);
     matches = l.matches;
     unnamed = l.unnamed;
     known = record {
-      words = l.known.words; numbers = l.known.numbers; free = l.known.free;
+      words = l.known.words;
+      numbers = l.known.numbers;
+      free = l.known.free;
       reads = reads_part c inputs fit wordy T body body h h (around ctx var) (around ctx var) l.sc.loops var var vars vars r' (pieced_turn w ctx body h vars e begins k r') l.known (λ j. refl) (λ later b. b) (λ t f. (f, keeps t f));
       tests = l.known.tests;
     };
@@ -178,9 +190,9 @@ module _ (c : Checked) (inputs : List Storage) (fit : FitProgram c inputs) (word
       free = λ k q. free_by (nat_eq k var) (m.vars k) (i.known.free k q);
       reads = reads_part c inputs fit wordy T (loop_of ∷ xs) body h h m (binding m var None) i.sc.loops i.next var vars vars r' r' i.known (λ j. refl) (λ later b k lt. b k (omega (arith, lt, e)))
           (λ t f.
-              let inner = rests body h (binding m var None) in
-              let kept = subst (λ (z : Rest). is_in z.changed t ≡ false) (ap (at_rest m) (at_loop (Marks → Rest) rest_step var range par body line last h)) (split_free t (rest_of loop_of h m).changed (rests xs (past_stmt loop_of h) m).changed f).0 in
-              (within_back t inner no_expr [] (quiet body h (binding m var None)) kept, refl));
+          let inner = rests body h (binding m var None) in
+          let kept = subst (λ (z : Rest). is_in z.changed t ≡ false) (ap (at_rest m) (at_loop (Marks → Rest) rest_step var range par body line last h)) (split_free t (rest_of loop_of h m).changed (rests xs (past_stmt loop_of h) m).changed f).0 in
+          (within_back t inner no_expr [] (quiet body h (binding m var None)) kept, refl));
       tests = tests_part c inputs fit wordy T m i.next var vars vars (λ later b k lt. b k (omega (arith, lt, e))) (looks body h (binding m var None))
           (subst (AllLooks (TestRight m i.next vars)) (looks_loop m h var range par body line last) (looks_first (TestRight m i.next vars) (looks_of loop_of h m) (looks xs (past_stmt loop_of h) m) i.known.tests));
     } where

@@ -1,15 +1,11 @@
 -- What is left of a body changes no other tensors than its text does; and the tests of a text.
-use Rattle.std.proofs.Common.{◌≡◌, ℕ, ℤ, pos, Bool, true, false, ◌||◌, List, [], ◌∷◌, ◌++◌, Option, Some, None, refl, sym, ap, ◌∙◌, subst, if◌then◌else◌}
-use Rattle.std.specs.Prelude.{nat_eq}
-use Rattle.std.specs.Ordering.{int_eq}
-use Rattle.fin_ast.specs.declared.tree.Index.{Index}
+use Rattle.std.proofs.Common.{◌≡◌, ℕ, Bool, true, false, ◌||◌, List, [], ◌∷◌, None, refl, sym, ap, ◌∙◌, subst}
 use Rattle.fin_ast.specs.declared.tree.Stmt.{Stmt}
-use Rattle.fin_ast.specs.declared.tree.Stmt.TheVariants as s
-use Rattle.fin_ast.proofs.Induction.{AllOf, Cases, by_kind, all_by_kind}
+use Rattle.fin_ast.proofs.Induction.{AllOf, Cases, all_by_kind}
 use Rattle.fin_simp.specs.Numbered.{Here, behind, behind_test, past_stmt}
 use Rattle.fin_simp.specs.Left.{Marks, binding, as_expr, left_of}
 use Rattle.fin_simp.specs.Remaining.{is_identity_literal}
-use Rattle.fin_simp.specs.Rest.{ExprRest, Test, Kind, Nothing, OneUpdate, Other, Rest, nothing, no_expr, within_kind, chosen_rest, let_rest, updating_rest, test_rest, expr_rest, rest_step, rest_of, written_step, written}
+use Rattle.fin_simp.specs.Rest.{Test, Rest, no_expr, test_rest, expr_rest, rest_step, rest_of, written_step, written}
 use Rattle.fin_simp.specs.Work.{is_in}
 use Rattle.fin_simp.proofs.Equations.{at_block, at_loop, at_cond, at_bind, at_declare, at_freeze, at_thaw, at_update}
 use Rattle.fin_simp.proofs.Mentions.{rests}
