@@ -63,13 +63,18 @@ impl Draft {
     }
 
     /// Puts in what all tensors want before a statement.
-    fn put_all(&mut self, headers: &[Header], statement: &Stmt) -> Result<(), AllocError>
+    fn put_all(
+        &mut self,
+        alloc: Global,
+        headers: &[Header],
+        statement: &Stmt,
+    ) -> Result<(), AllocError>
         requires { length headers.now ≤ 64 }
         ensures { let put = completing.put_all headers.now (completing_of headers.now statement.now) in
             OnOk result (carried_in self.new ≡ put (carried_in self.old)) }
     {
         let mut mentions = Mentions::nothing();
-        mentions.note_statement(statement);
+        mentions.note_statement(alloc, statement)?;
         let line = line_of(statement);
         for tensor in 0..headers.len() {
             self.put_one(headers, &mentions, line, tensor as u8)?;
@@ -166,7 +171,7 @@ fn complete_all(
         modes: *now,
     };
     for statement in body {
-        draft.put_all(headers, statement)?;
+        draft.put_all(alloc, headers, statement)?;
         let whole = complete_stmt(alloc, headers, statement, &draft.modes)?;
         draft.statements.push(whole)?;
         lead(statement, &mut draft.modes);

@@ -1,5 +1,6 @@
 //! The rules on the life of tensors.
 ghost use Rattle.std.specs.Prelude.{◌≡◌, ◌≤◌, IfOk, IfErr, length, List, [], None, Some};
+ghost use Rattle.std.specs.Option.{option_or};
 ghost use Rattle.fin_ast.specs.Life.{life_in, breach_by};
 ghost use Rattle.fin_ast.specs.Life as life;
 ghost use Rattle.fin_ast.specs.declared.header.Header.{Header};
@@ -196,21 +197,36 @@ fn update_breach(headers: &[Header], tensor: u8, line: u32, now: &Modes) -> Opti
     )
 }
 
+// The first read that breaks a rule. A sum may have millions of terms, and groups to the left: its sides are gone through
+// from the last one, and what stands before it is told in its place.
 fn expr_breach(expr: &Expr, now: &Modes) -> Option<Refusal>
     ensures { result ≡ breach_of_expr (mode_in now.now) expr.now }
 {
-    match expr {
-        Expr::Num(_) | Expr::Var { var: _, line: _ } => None,
-        Expr::Read {
-            tensor,
-            at: _,
-            line,
-        } => broken(!is_read(now.at(*tensor)), Rule::L2, *line),
-        Expr::Neg(inner) => expr_breach(inner.get(), now),
-        Expr::Two { op: _, left, right } => match expr_breach(left.get(), now) {
-            Some(refusal) => Some(refusal),
-            None => expr_breach(right.get(), now),
-        },
+    let mut at = expr;
+    let mut later = None;
+    loop {
+        match at {
+            Expr::Num(_) | Expr::Var { var: _, line: _ } => return later,
+            Expr::Read {
+                tensor,
+                at: _,
+                line,
+            } => return first_of(broken(!is_read(now.at(*tensor)), Rule::L2, *line), later),
+            Expr::Neg(inner) => return first_of(expr_breach(inner.get(), now), later),
+            Expr::Two { op: _, left, right } => {
+                later = first_of(expr_breach(right.get(), now), later);
+                at = left.get();
+            }
+        }
+    }
+}
+
+fn first_of(first: Option<Refusal>, later: Option<Refusal>) -> Option<Refusal>
+    ensures { result ≡ option_or first later }
+{
+    match first {
+        Some(refusal) => Some(refusal),
+        None => later,
     }
 }
 

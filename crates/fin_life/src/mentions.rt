@@ -1,11 +1,13 @@
 //! What a statement does with each tensor.
-ghost use Rattle.std.specs.Prelude.{◌≡◌, List};
+ghost use Rattle.std.specs.Prelude.{◌≡◌, OnOk, List};
 ghost use Rattle.fin_ast.specs.declared.header.Header.{Header};
+ghost use Rattle.fin_ast.specs.Spine.{expr_of};
 ghost use Rattle.fin_life.specs.Completing.{noted_in, completing_of, completings_of};
 ghost use Rattle.fin_life.specs.Mentions.{mention_in, note_of_expr, noted, only_reads_of, only_updates_of};
 ghost use Rattle.fin_life.specs.Mentions as mentions;
 
-use fin_ast::{Expr, Stmt};
+use fin_ast::{Expr, Head, Stmt};
+use std::alloc::{AllocError, Global};
 
 /// What is done with a tensor.
 #[derive(Clone, Copy, Debug)]
@@ -50,16 +52,16 @@ impl Mentions {
 
     /// What a statement does, too.
     #[cycle(noted)]
-    pub fn note_statement(&mut self, statement: &Stmt)
-        ensures { (headers : List Header)
-            → mention_in self.new ≡ (completing_of headers statement.now).note (mention_in self.old) }
+    pub fn note_statement(&mut self, alloc: Global, statement: &Stmt) -> Result<(), AllocError>
+        ensures { OnOk result ((headers : List Header)
+            → mention_in self.new ≡ (completing_of headers statement.now).note (mention_in self.old)) }
     {
         match statement {
             Stmt::Block {
                 body,
                 line: _,
                 last: _,
-            } => self.note_all(body.as_slice()),
+            } => self.note_all(alloc, body.as_slice()),
             Stmt::Loop {
                 var: _,
                 range: _,
@@ -67,15 +69,15 @@ impl Mentions {
                 body,
                 line: _,
                 last: _,
-            } => self.note_all(body.as_slice()),
+            } => self.note_all(alloc, body.as_slice()),
             Stmt::Cond {
                 test,
                 body,
                 line: _,
                 last: _,
             } => {
-                self.note_expr(test);
-                self.note_all(body.as_slice())
+                self.note_expr(alloc, test)?;
+                self.note_all(alloc, body.as_slice())
             }
             Stmt::Bind {
                 var: _,
@@ -84,16 +86,16 @@ impl Mentions {
                 line: _,
                 last: _,
             } => {
-                self.note_expr(value);
-                self.note_all(body.as_slice())
+                self.note_expr(alloc, value)?;
+                self.note_all(alloc, body.as_slice())
             }
             Stmt::Declare {
                 tensor,
                 value: _,
                 line: _,
-            } => self.note(*tensor, Mention::Other),
-            Stmt::Freeze { tensor, line: _ } => self.note(*tensor, Mention::Other),
-            Stmt::Thaw { tensor, line: _ } => self.note(*tensor, Mention::Other),
+            } => self.note_change(*tensor),
+            Stmt::Freeze { tensor, line: _ } => self.note_change(*tensor),
+            Stmt::Thaw { tensor, line: _ } => self.note_change(*tensor),
             Stmt::Update {
                 tensor,
                 at: _,
@@ -102,36 +104,59 @@ impl Mentions {
                 line: _,
             } => {
                 self.note(*tensor, Mention::Updates);
-                self.note_expr(value)
+                self.note_expr(alloc, value)
             }
         }
+    }
+
+    // A declaration, freeze or thaw.
+    fn note_change(&mut self, tensor: u8) -> Result<(), AllocError>
+        ensures { OnOk result (mention_in self.new ≡ noted (mention_in self.old) tensor Mention.Other) }
+    {
+        self.note(tensor, Mention::Other);
+        Ok(())
     }
 
     #[cycle(noted)]
-    fn note_all(&mut self, body: &[Stmt])
-        ensures { (headers : List Header)
-            → mention_in self.new ≡ noted_in (completings_of headers body.now) (mention_in self.old) }
+    fn note_all(&mut self, alloc: Global, body: &[Stmt]) -> Result<(), AllocError>
+        ensures { OnOk result ((headers : List Header)
+            → mention_in self.new ≡ noted_in (completings_of headers body.now) (mention_in self.old)) }
     {
         for statement in body {
-            self.note_statement(statement);
+            self.note_statement(alloc, statement)?;
         }
+        Ok(())
     }
 
-    fn note_expr(&mut self, expr: &Expr)
-        ensures { mention_in self.new ≡ note_of_expr expr.now (mention_in self.old) }
+    // A sum may have millions of terms, and groups to the left: a loop and no recursion there.
+    #[cycle(along)]
+    fn note_expr(&mut self, alloc: Global, expr: &Expr) -> Result<(), AllocError>
+        ensures { OnOk result (mention_in self.new ≡ note_of_expr expr.now (mention_in self.old)) }
     {
-        match expr {
-            Expr::Num(_) | Expr::Var { var: _, line: _ } => (),
-            Expr::Read {
+        let spine = expr.spine(alloc)?;
+        self.note_head(alloc, spine.head)?;
+        let mut sides = spine.sides;
+        while let Some((_op, right)) = sides.pop() {
+            self.note_expr(alloc, right)?;
+        }
+        Ok(())
+    }
+
+    #[cycle(along)]
+    fn note_head(&mut self, alloc: Global, head: Head<'_>) -> Result<(), AllocError>
+        ensures { OnOk result (mention_in self.new ≡ note_of_expr (expr_of head.entry) (mention_in self.old)) }
+    {
+        match head {
+            Head::Num(_) | Head::Var { var: _, line: _ } => Ok(()),
+            Head::Read {
                 tensor,
                 at: _,
                 line: _,
-            } => self.note(*tensor, Mention::Reads),
-            Expr::Neg(inner) => self.note_expr(inner.get()),
-            Expr::Two { op: _, left, right } => {
-                self.note_expr(left.get());
-                self.note_expr(right.get())
+            } => {
+                self.note(tensor, Mention::Reads);
+                Ok(())
             }
+            Head::Neg(inner) => self.note_expr(alloc, inner),
         }
     }
 }
