@@ -1,29 +1,35 @@
 //! The choices of loops.
-ghost use Rattle.std.specs.Prelude.{◌≡◌, slice_get};
+ghost use Rattle.std.specs.Prelude.{◌≡◌, IfOk, slice_get};
+ghost use Rattle.fin_ast.specs.Spine.{expr_of};
 ghost use Rattle.fin_ast.specs.Choices.{choices_of_expr, choices_in, first_in, crowd_of, crowds_of, levels_of};
 ghost use Rattle.fin_ast.specs.Choices as counted;
 
 use crate::breach::broken;
-use fin_ast::{Expr, Header, Index, Stmt};
+use fin_ast::{Expr, Head, Header, Index, Stmt};
 use fin_base::{Refusal, Rule};
 use fin_tensor::Level;
+use std::alloc::{AllocError, Global};
 
 /// The first loop that stands in no other loop and holds more than 8 choices.
 #[cycle(crowd)]
-pub fn first_crowd(headers: &[Header], body: &[Stmt]) -> Option<Refusal>
-    ensures { result ≡ first_in (crowds_of headers.now body.now) }
+pub fn first_crowd(
+    alloc: Global,
+    headers: &[Header],
+    body: &[Stmt],
+) -> Result<Option<Refusal>, AllocError>
+    ensures { IfOk result (λ crowd. crowd ≡ first_in (crowds_of headers.now body.now)) }
 {
     for statement in body {
-        if let Some(refusal) = crowd(headers, statement) {
-            return Some(refusal);
+        if let Some(refusal) = crowd(alloc, headers, statement)? {
+            return Ok(Some(refusal));
         }
     }
-    None
+    Ok(None)
 }
 
 #[cycle(crowd)]
-fn crowd(headers: &[Header], statement: &Stmt) -> Option<Refusal>
-    ensures { result ≡ (crowd_of headers.now statement.now).first }
+fn crowd(alloc: Global, headers: &[Header], statement: &Stmt) -> Result<Option<Refusal>, AllocError>
+    ensures { IfOk result (λ crowd. crowd ≡ (crowd_of headers.now statement.now).first) }
 {
     match statement {
         Stmt::Loop {
@@ -33,54 +39,63 @@ fn crowd(headers: &[Header], statement: &Stmt) -> Option<Refusal>
             body,
             line,
             last: _,
-        } => broken(
-            8 < choices_of_all(headers, body.as_slice(), 0),
-            Rule::B3,
-            *line,
-        ),
+        } => {
+            let choices = choices_of_all(alloc, headers, body.as_slice(), 0)?;
+            Ok(broken(8 < choices, Rule::B3, *line))
+        }
         Stmt::Block {
             body,
             line: _,
             last: _,
-        } => first_crowd(headers, body.as_slice()),
+        } => first_crowd(alloc, headers, body.as_slice()),
         Stmt::Cond {
             test: _,
             body,
             line: _,
             last: _,
-        } => first_crowd(headers, body.as_slice()),
+        } => first_crowd(alloc, headers, body.as_slice()),
         Stmt::Bind {
             var: _,
             value: _,
             body,
             line: _,
             last: _,
-        } => first_crowd(headers, body.as_slice()),
-        _ => None,
+        } => first_crowd(alloc, headers, body.as_slice()),
+        _ => Ok(None),
     }
 }
 
 #[cycle(counted)]
-fn choices_of_all(headers: &[Header], body: &[Stmt], before: u8) -> u8
-    ensures { result ≡ choices_in (crowds_of headers.now body.now) before }
+fn choices_of_all(
+    alloc: Global,
+    headers: &[Header],
+    body: &[Stmt],
+    before: u8,
+) -> Result<u8, AllocError>
+    ensures { IfOk result (λ n. n ≡ choices_in (crowds_of headers.now body.now) before) }
 {
     let mut choices = before;
     for statement in body {
-        choices = choices_of(headers, statement, choices);
+        choices = choices_of(alloc, headers, statement, choices)?;
     }
-    choices
+    Ok(choices)
 }
 
 #[cycle(counted)]
-fn choices_of(headers: &[Header], statement: &Stmt, before: u8) -> u8
-    ensures { result ≡ (crowd_of headers.now statement.now).choices before }
+fn choices_of(
+    alloc: Global,
+    headers: &[Header],
+    statement: &Stmt,
+    before: u8,
+) -> Result<u8, AllocError>
+    ensures { IfOk result (λ n. n ≡ (crowd_of headers.now statement.now).choices before) }
 {
     match statement {
         Stmt::Block {
             body,
             line: _,
             last: _,
-        } => choices_of_all(headers, body.as_slice(), before),
+        } => choices_of_all(alloc, headers, body.as_slice(), before),
         Stmt::Loop {
             var: _,
             range: _,
@@ -88,15 +103,15 @@ fn choices_of(headers: &[Header], statement: &Stmt, before: u8) -> u8
             body,
             line: _,
             last: _,
-        } => choices_of_all(headers, body.as_slice(), before),
+        } => choices_of_all(alloc, headers, body.as_slice(), before),
         Stmt::Cond {
             test,
             body,
             line: _,
             last: _,
         } => {
-            let tested = choices_of_value(headers, test, one_more(before));
-            choices_of_all(headers, body.as_slice(), tested)
+            let tested = choices_of_value(alloc, headers, test, one_more(before))?;
+            choices_of_all(alloc, headers, body.as_slice(), tested)
         }
         Stmt::Bind {
             var: _,
@@ -105,8 +120,8 @@ fn choices_of(headers: &[Header], statement: &Stmt, before: u8) -> u8
             line: _,
             last: _,
         } => {
-            let valued = choices_of_value(headers, value, before);
-            choices_of_all(headers, body.as_slice(), valued)
+            let valued = choices_of_value(alloc, headers, value, before)?;
+            choices_of_all(alloc, headers, body.as_slice(), valued)
         }
         Stmt::Update {
             tensor: _,
@@ -114,26 +129,48 @@ fn choices_of(headers: &[Header], statement: &Stmt, before: u8) -> u8
             by: _,
             value,
             line: _,
-        } => choices_of_value(headers, value, before),
-        _ => before,
+        } => choices_of_value(alloc, headers, value, before),
+        _ => Ok(before),
     }
 }
 
-fn choices_of_value(headers: &[Header], expr: &Expr, before: u8) -> u8
-    ensures { result ≡ choices_of_expr headers.now expr.now before }
+// A sum may have millions of terms, and groups to the left: a loop and no recursion there.
+#[cycle(along)]
+fn choices_of_value(
+    alloc: Global,
+    headers: &[Header],
+    expr: &Expr,
+    before: u8,
+) -> Result<u8, AllocError>
+    ensures { IfOk result (λ n. n ≡ choices_of_expr headers.now expr.now before) }
 {
-    match expr {
-        Expr::Num(_) | Expr::Var { var: _, line: _ } => before,
-        Expr::Read {
+    let spine = expr.spine(alloc)?;
+    let mut choices = choices_of_head(alloc, headers, spine.head, before)?;
+    let mut sides = spine.sides;
+    while let Some((_op, right)) = sides.pop() {
+        let behind = choices_of_value(alloc, headers, right, choices)?;
+        choices = behind;
+    }
+    Ok(choices)
+}
+
+#[cycle(along)]
+fn choices_of_head(
+    alloc: Global,
+    headers: &[Header],
+    head: Head<'_>,
+    before: u8,
+) -> Result<u8, AllocError>
+    ensures { IfOk result (λ n. n ≡ choices_of_expr headers.now (expr_of head.entry) before) }
+{
+    match head {
+        Head::Num(_) | Head::Var { var: _, line: _ } => Ok(before),
+        Head::Read {
             tensor,
             at,
             line: _,
-        } => choices_of_read(headers, *tensor, at.as_slice(), before),
-        Expr::Neg(inner) => choices_of_value(headers, inner.get(), before),
-        Expr::Two { op: _, left, right } => {
-            let left = choices_of_value(headers, left.get(), before);
-            choices_of_value(headers, right.get(), left)
-        }
+        } => Ok(choices_of_read(headers, tensor, at.as_slice(), before)),
+        Head::Neg(inner) => choices_of_value(alloc, headers, inner, before),
     }
 }
 

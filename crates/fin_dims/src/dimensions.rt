@@ -49,7 +49,7 @@ fn infer_small(
     match classes_of(alloc, given.as_slice(), places) {
         Ok(classes) => {
             let dims = classes.dims(alloc, program.headers.as_slice(), places)?;
-            match breach(&classes, program, places, &dims) {
+            match breach(alloc, &classes, program, places, &dims)? {
                 Some(refusal) => Err(Fail::Refused(refusal)),
                 None => Ok(dims),
             }
@@ -97,16 +97,21 @@ fn copied(alloc: Global, shape: &Nums) -> Result<Option<Nums>, AllocError>
     Ok(Some(shape))
 }
 
-fn breach(classes: &Classes, program: &Program, places: &[Place], dims: &Dims) -> Option<Refusal>
+fn breach(
+    alloc: Global,
+    classes: &Classes,
+    program: &Program,
+    places: &[Place],
+    dims: &Dims,
+) -> Result<Option<Refusal>, AllocError>
     requires places { places.now ≡ places_in program.now }
     requires dims { dims.now ≡ dims_in (extent_of classes.now) program.now }
-    ensures { result ≡ breach_in (extent_of classes.now) program.now }
+    ensures { IfOk result (λ breach. breach ≡ breach_in (extent_of classes.now) program.now) }
 {
     let headers = program.headers.as_slice();
     let dense = first_dense(headers, dims.shapes.as_slice());
-    let crowd = first_crowd(headers, program.body.as_slice());
+    let crowd = first_crowd(alloc, headers, program.body.as_slice())?;
     let outside = classes.first_outside(dims.ranges.as_slice(), places);
-    classes
-        .first_unknown(headers, places)
-        .or(outside.or(dense.or(crowd)))
+    let unknown = classes.first_unknown(headers, places);
+    Ok(unknown.or(outside.or(dense.or(crowd))))
 }

@@ -17,7 +17,7 @@ returns-in-Some-clause-refused c =
       small = c.requires.small;
       even = in_program (λ s t. ¬ IsUneven s t) c.args.program.now c.args.shapes.now c.as_slice-2.result.now c.args.places.now shapes c.requires.places c.in-Ok.ensures.even;
       extents = in_program (λ s t. AreExtents s t (extent_of c.in-Ok.classes)) c.args.program.now c.args.shapes.now c.as_slice-2.result.now c.args.places.now shapes c.requires.places c.in-Ok.ensures.extents;
-      breach = sym c.breach.ensures ∙ c.in-Some.is;
+      breach = sym c.in_ok-refusal-in-Ok.ensures ∙ c.in-Some.is;
     }))
 
 pub returns-in-Ok-clause-numbers : goal.returns-in-Ok-clause-numbers
@@ -28,7 +28,7 @@ returns-in-Ok-clause-numbers c =
       small = c.requires.small;
       even = in_program (λ s t. ¬ IsUneven s t) c.args.program.now c.args.shapes.now c.as_slice-2.result.now c.args.places.now shapes c.requires.places c.in-Ok.ensures.even;
       extents = in_program (λ s t. AreExtents s t (extent_of c.in-Ok.classes)) c.args.program.now c.args.shapes.now c.as_slice-2.result.now c.args.places.now shapes c.requires.places c.in-Ok.ensures.extents;
-      kept = sym c.breach.ensures ∙ c.in-None.is;
+      kept = sym c.in_ok-refusal-in-Ok.ensures ∙ c.in-None.is;
       numbers = c.in_ok-dims-in-Ok.ensures
           ∙ ap (λ (hs : List Header). dims_of (extent_of c.in-Ok.classes) hs c.args.places.now) c.as_slice-in-Ok.ensures
           ∙ ap (λ (ps : List Place). dims_of (extent_of c.in-Ok.classes) c.args.program.now.headers ps) c.requires.places;
