@@ -271,7 +271,11 @@ fn push_valued(
     ensures code { OnOk result (into.new ≡ into.old ++ values.prelude (sites.value_at site.now e.now)) }
     ensures reach { OnOk result (most.new ≡ max most.old (room.end_of (sites.value_at site.now e.now))) }
 {
-    let Value { expr, next } = push_value(alloc, into, site.heads, e, site.next)?;
+    let Value {
+        expr,
+        depth: _,
+        next,
+    } = push_value(alloc, into, site.heads, e, site.next)?;
     let after = following(next)?;
     *most = (*most).max(after);
     Ok(expr)

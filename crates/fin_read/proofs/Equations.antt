@@ -1,5 +1,5 @@
 -- The code of each kind of expression, and what is tested of each.
-use Rattle.std.proofs.Common.{◌≡◌, ℕ, ◌+◌, ◌≤◌, ℤ, Bool, ◌&&◌, List, [], map, ap, subst, sym, arith}
+use Rattle.std.proofs.Common.{◌≡◌, ℕ, ◌+◌, ◌≤◌, ℤ, Bool, true, false, ◌&&◌, List, [], map, ap, subst, sym, arith}
 use Rattle.std.specs.Prelude.{is_some}
 use Rattle.fin_base.specs.declared.terms.Op.{Op}
 use Rattle.fin_ast.specs.declared.tree.Index.{Index}
@@ -9,15 +9,16 @@ use Rattle.fin_ast.specs.Scope.{Scope, is_bound, is_access, expr_step, is_named_
 use Rattle.fin_ast.specs.Value.{Numbers, Tensors}
 use Rattle.fin_ast.proofs.Nodes.{of_num, of_var, of_read, of_neg, of_two}
 use Rattle.fin_ir.specs.declared.expression.IExpr.{IExpr}
-use Rattle.fin_ir.specs.declared.expression.IExpr.TheVariants.{Num, Local, Neg}
+use Rattle.fin_ir.specs.declared.expression.IExpr.TheVariants.{Num, Local}
 use Rattle.fin_stage.specs.Staged.{reads_step, can_read, indices_step, are_small, has_small_indices}
 use Rattle.fin_read.specs.Steps.{Step}
 use Rattle.fin_read.specs.Reads.{read_steps}
-use Rattle.fin_read.specs.Values.{Heads, Lowered, format_of, shape_of, index_code, two_after, lower_expr_step, value_code}
+use Rattle.fin_read.specs.Values.{Heads, Lowered, format_of, shape_of, index_code, is_shallow, rest_next, rested, opposite, two_after, lower_expr_step, value_code}
 use Rattle.fin_read.proofs.ByKind.{Kinds, by_kind}
 
+-- one that isn't deep
 abbrev pub lowered : List Step → IExpr → ℕ → Lowered
-lowered steps value next = record { steps = steps; value = value; next = next }
+lowered steps value next = record { steps = steps; value = value; depth = 0; next = next }
 
 -- ---- the code
 
@@ -34,10 +35,10 @@ module _ (h : Heads) (next : ℕ) where
   pub code_read : (tensor : ℕ) (at : List Index) (line : ℕ) → value_code h (e.Read tensor at line) next ≡ lowered (read_steps tensor (format_of h tensor).levels (shape_of h tensor) (format_of h tensor).fill (map index_code at) next) (Local next) (next + 1)
   code_read tensor at line = ap (λ (f : Code). f next) (of_read Code (lower_expr_step h) tensor at line)
 
-  pub code_neg : (x : Expr) → value_code h (e.Neg x) next ≡ lowered (value_code h x next).steps (Neg (value_code h x next).value) (value_code h x next).next
+  pub code_neg : (x : Expr) → value_code h (e.Neg x) next ≡ opposite (rested (value_code h x next))
   code_neg x = ap (λ (f : Code). f next) (of_neg Code (lower_expr_step h) x)
 
-  pub code_two : (op : Op) (x y : Expr) → value_code h (e.Two op x y) next ≡ two_after op (value_code h x next) (value_code h y (value_code h x next).next)
+  pub code_two : (op : Op) (x y : Expr) → value_code h (e.Two op x y) next ≡ two_after op (rested (value_code h x next)) (value_code h y (rested (value_code h x next)).next)
   code_two op x y = ap (λ (f : Code). f next) (of_two Code (lower_expr_step h) op x y)
 
 -- ---- the tests
@@ -84,13 +85,20 @@ module _ (h : Heads) where
   by_code : (next : ℕ) (v w : Lowered) → v ≡ w → next ≤ w.next → next ≤ v.next
   by_code next v w same le = subst (λ (u : Lowered). next ≤ u.next) (sym same) le
 
+  rest_grows : (shallow : Bool) (next : ℕ) → next ≤ rest_next shallow next
+  rest_grows true next = omega arith
+  rest_grows false next = omega arith
+
+  pub rested_grows : (v : Lowered) → v.next ≤ (rested v).next
+  rested_grows v = rest_grows (is_shallow v.depth) v.next
+
   kinds : Kinds Grows
   kinds = record {
     num = λ n next. by_code next (value_code h (e.Num n) next) _ (code_num h next n) (omega arith);
     var = λ var line next. by_code next (value_code h (e.Var var line) next) _ (code_var h next var line) (omega arith);
     read = λ tensor at line next. by_code next (value_code h (e.Read tensor at line) next) _ (code_read h next tensor at line) (omega arith);
-    neg = λ x grows next. by_code next (value_code h (e.Neg x) next) _ (code_neg h next x) (grows next);
-    two = λ op x y first second next. by_code next (value_code h (e.Two op x y) next) _ (code_two h next op x y) (omega (arith, first next, second (value_code h x next).next));
+    neg = λ x grows next. by_code next (value_code h (e.Neg x) next) _ (code_neg h next x) (omega (arith, grows next, rested_grows (value_code h x next)));
+    two = λ op x y first second next. by_code next (value_code h (e.Two op x y) next) _ (code_two h next op x y) (omega (arith, first next, rested_grows (value_code h x next), second (rested (value_code h x next)).next));
   }
 
   pub code_grows : (x : Expr) → Grows x

@@ -10,3 +10,4 @@ pub mod Equations
 pub mod Indexing
 pub mod Valuing
 pub mod Naming
+pub mod Pushing

@@ -1,5 +1,5 @@
 -- The layout has the locals and tensors that the code of expressions names.
-use Rattle.std.proofs.Common.{◌≡◌, ℕ, ◌+◌, ◌<◌, ◌≤◌, Bool, true, ◌&&◌, List, [], ◌∷◌, ◌++◌, map, length, Option, Some, None, refl, sym, ◌∙◌, subst, ℤ, pos, arith}
+use Rattle.std.proofs.Common.{◌≡◌, ℕ, ◌+◌, ◌<◌, ◌≤◌, Bool, true, false, ◌&&◌, List, [], ◌∷◌, ◌++◌, map, length, Option, Some, None, refl, sym, ◌∙◌, subst, ℤ, pos, arith}
 use Rattle.std.specs.Prelude.{slice_get, ◌==◌}
 use Rattle.std.specs.List.{list_all}
 use Rattle.std.proofs.lemmas.Bool.{lt-ltb}
@@ -23,10 +23,10 @@ use Rattle.fin_stage.proofs.Alive.{left, right, both, holds_there}
 use Rattle.fin_read.specs.Steps.{Step, assign_of}
 use Rattle.fin_read.specs.Reads.{none, in_extent, in_box, fibre_begin, fibre_end, where_placed, sought, found, in_block, step_to, level_steps, levels_steps, last_step, read_steps, place_of}
 use Rattle.fin_read.specs.Counts.{below_level, count_from, count_code}
-use Rattle.fin_read.specs.Values.{Heads, Lowered, format_of, shape_of, var_code, index_code, value_code, prelude}
+use Rattle.fin_read.specs.Values.{Heads, Lowered, format_of, shape_of, var_code, index_code, is_shallow, rested_where, rested, value_code, prelude}
 use Rattle.fin_read.specs.Means.{IsWithin, ValuesAreNamed}
 use Rattle.fin_read.proofs.ByKind.{Kinds, by_kind}
-use Rattle.fin_read.proofs.Equations.{code_num, code_var, code_read, code_neg, code_two, named_var, named_read, named_neg, named_two, code_grows}
+use Rattle.fin_read.proofs.Equations.{code_num, code_var, code_read, code_neg, code_two, named_var, named_read, named_neg, named_two, code_grows, rested_grows}
 use Rattle.fin_read.proofs.Indexing.{loop_is_bound}
 
 module _ (layout : Layout) where
@@ -213,16 +213,24 @@ module _ (layout : Layout) (h : Heads) (s : Scope) (count : ℕ) (same : s.heade
       let xs = indices_named layout s (λ var bound. local_below layout var (omega (arith, within var (loop_is_bound s var bound), low, room'))) at (right (holds_of test (slice_get s.headers tensor)) (list_all (is_index s) at) is) in
       subst IsNamed (sym code) (read_named layout tensor next has here behind (format_of h tensor).levels (shape_of h tensor) (format_of h tensor).fill (map index_code at) xs, local layout next here)
 
+  rested_named : (shallow : Bool) (v : Lowered) → (rested_where shallow v).next ≤ layout.locals → IsNamed v → IsNamed (rested_where shallow v)
+  rested_named true v room is = (steps_append layout v.steps [] is.0 refl, is.1)
+  rested_named false v room is =
+      let here = local_below layout v.next (omega (arith, room)) in
+      (steps_append layout v.steps (step_to v.next v.value ∷ []) is.0 (step layout v.next v.value [] here is.1 refl), local layout v.next here)
+
   pair : (o : Op) (x y : Expr) → CodeIsNamed x → CodeIsNamed y → CodeIsNamed (e.Two o x y)
   pair o x y one other next named low room =
-      let a = value_code h x next in
+      let first_code = value_code h x next in
+      let a = rested first_code in
       let b = value_code h y a.next in
       let code = code_two h next o x y in
       let room' : b.next + 1 ≤ layout.locals = subst (λ (v : Lowered). v.next + 1 ≤ layout.locals) code room in
       let is = sym (named_two s o x y) ∙ named in
       let more = code_grows h y a.next in
-      let first = one next (left (is_named_expr x s) (is_named_expr y s) is) low (omega (arith, room', more)) in
-      let second = other a.next (right (is_named_expr x s) (is_named_expr y s) is) (omega (arith, low, code_grows h x next)) room' in
+      let grown = rested_grows h first_code in
+      let first = rested_named (is_shallow first_code.depth) first_code (omega (arith, room', more)) (one next (left (is_named_expr x s) (is_named_expr y s) is) low (omega (arith, room', more, grown))) in
+      let second = other a.next (right (is_named_expr x s) (is_named_expr y s) is) (omega (arith, low, code_grows h x next, grown)) room' in
       subst IsNamed (sym code) (steps_append layout a.steps b.steps first.0 second.0, two layout o a.value b.value first.1 second.1)
 
   kinds : Kinds CodeIsNamed
@@ -235,9 +243,10 @@ module _ (layout : Layout) (h : Heads) (s : Scope) (count : ℕ) (same : s.heade
     read = access;
     neg = λ x part next named low room.
         let code = code_neg h next x in
-        let room' : (value_code h x next).next + 1 ≤ layout.locals = subst (λ (u : Lowered). u.next + 1 ≤ layout.locals) code room in
-        let inner = part next (sym (named_neg s x) ∙ named) low room' in
-        subst IsNamed (sym code) (inner.0, neg layout (value_code h x next).value inner.1);
+        let v = value_code h x next in
+        let room' : (rested v).next + 1 ≤ layout.locals = subst (λ (u : Lowered). u.next + 1 ≤ layout.locals) code room in
+        let inner = rested_named (is_shallow v.depth) v (omega (arith, room')) (part next (sym (named_neg s x) ∙ named) low (omega (arith, room', rested_grows h v))) in
+        subst IsNamed (sym code) (inner.0, neg layout (rested v).value inner.1);
     two = pair;
   }
 

@@ -1,6 +1,6 @@
 -- The code of an expression gives its value.
-use Rattle.std.proofs.Common.{◌≡◌, ℕ, ◌+◌, ◌<◌, ◌≤◌, true, List, [], ◌++◌, map, length, Option, Some, None, refl, sym, ap, ◌∙◌, subst, ℤ, arith}
-use Rattle.std.specs.Prelude.{is_some, slice_get, ◌==◌}
+use Rattle.std.proofs.Common.{◌≡◌, ℕ, ◌+◌, ◌<◌, ◌≤◌, Bool, true, false, List, [], ◌∷◌, ◌++◌, append-nil, map, length, Option, Some, None, refl, sym, ap, ◌∙◌, subst, ℤ, pos, arith}
+use Rattle.std.specs.Prelude.{is_some, slice_get, slice_index_or, ◌==◌}
 use Rattle.std.specs.List.{list_all}
 use Rattle.fin_base.specs.declared.terms.Op.{Op}
 use Rattle.fin_base.specs.Words.{operate, negated}
@@ -13,22 +13,22 @@ use Rattle.fin_ast.specs.Scope.{Scope, holds_of, is_index, is_named_expr}
 use Rattle.fin_ast.specs.Value.{Numbers, Tensors, number, place, coordinates, value_in, read}
 use Rattle.fin_ast.specs.Value as language
 use Rattle.fin_ast.proofs.Values as meant
-use Rattle.fin_ir.specs.declared.expression.IExpr.TheVariants.{Num, Local, Neg}
+use Rattle.fin_ir.specs.declared.expression.IExpr.TheVariants.{Num, Local}
 use Rattle.fin_ir.specs.Machine.{Tensor}
 use Rattle.fin_ir.specs.Value.{value_of}
 use Rattle.fin_ir.proofs.Values.{value_num, value_local, value_neg, value_two}
 use Rattle.fin_stage.specs.Staged.{are_small, can_read, has_small_indices}
 use Rattle.fin_stage.proofs.Alive.{left, right}
-use Rattle.fin_read.specs.Steps.{stepped, Agree}
-use Rattle.fin_read.specs.Reads.{read_steps}
-use Rattle.fin_read.specs.Values.{Heads, Lowered, format_of, shape_of, index_code, two_after, value_code}
+use Rattle.fin_read.specs.Steps.{Step, stepped, Agree}
+use Rattle.fin_read.specs.Reads.{step_to, read_steps}
+use Rattle.fin_read.specs.Values.{Heads, Lowered, format_of, shape_of, index_code, is_shallow, rested_where, rested, opposite, two_after, value_code}
 use Rattle.fin_read.specs.Sees.{SeesAll}
 use Rattle.fin_read.specs.Means.{AreAt, IsRead, IsWithin, IsValued, ValuesMean}
 use Rattle.fin_read.proofs.ByKind.{Kinds, by_kind}
-use Rattle.fin_read.proofs.Equations.{lowered, code_num, code_var, code_read, code_neg, code_two, named_var, named_read, named_neg, named_two, reads_read, reads_neg, reads_two, small_read, small_neg, small_two, code_grows}
+use Rattle.fin_read.proofs.Equations.{lowered, code_num, code_var, code_read, code_neg, code_two, named_var, named_read, named_neg, named_two, reads_read, reads_neg, reads_two, small_read, small_neg, small_two, code_grows, rested_grows}
 use Rattle.fin_read.proofs.Indexing.{indices_are}
 use Rattle.fin_read.proofs.Reading.{reads_mean}
-use Rattle.fin_read.proofs.Stepping.{agree_refl, agree_then, agree_less, stepped_append}
+use Rattle.fin_read.proofs.Stepping.{agree_refl, agree_then, agree_less, stepped_append, one_step}
 
 module _ (h : Heads) (ts : ℕ → Tensor) (fs : Tensors) (s : Scope) (vars : Numbers) (sees : SeesAll h ts fs) (within : IsWithin s (length vars)) where
   -- what is known of an expression where its code begins
@@ -102,26 +102,48 @@ module _ (h : Heads) (ts : ℕ → Tensor) (fs : Tensors) (s : Scope) (vars : Nu
       (meant.value_read vars fs tensor at line ∙ read_value tensor given.0 (map (place vars) at) given.1)
       (read_valued tensor at given.0 next ls given.1 named small asked.bound asked.agree (omega (arith, room)))
 
+  -- ---- what is set down
+  rested_valued : (shallow : Bool) (a : Lowered) (next : ℕ) (ls : List ℤ) (z : ℤ) → (rested_where shallow a).next ≤ length ls → IsValued ts a next ls z → IsValued ts (rested_where shallow a) next ls z
+  rested_valued true a next ls z room got =
+      subst (λ (ss : List Step). IsValued ts (record { steps = ss; value = a.value; depth = a.depth; next = a.next }) next ls z) (sym (append-nil a.steps))
+      (record { long = got.long; kept = got.kept; grows = got.grows; value = got.value })
+  rested_valued false a next ls z room got =
+      let middle = stepped ts a.steps ls in
+      let set = step_to a.next a.value ∷ [] in
+      let is : stepped ts (a.steps ++ set) ls ≡ stepped ts set middle = stepped_append ts a.steps set ls in
+      let read : IsRead ts set a.next middle z = one_step ts a.next middle a.value z (omega (arith, room, got.long)) (got.value middle (agree_refl a.next middle)) in
+      record {
+        long = ap length is ∙ read.long ∙ got.long;
+        kept = subst (λ (ks : List ℤ). Agree next ks ls) (sym is) (agree_then next (stepped ts set middle) middle ls (agree_less next a.next (stepped ts set middle) middle got.grows read.kept) got.kept);
+        grows = omega (arith, got.grows);
+        value = λ ks same. value_local ts ks a.next ∙ same a.next (omega arith) ∙ ap (λ (js : List ℤ). slice_index_or js a.next (pos 0)) is ∙ read.value;
+      }
+
   -- ---- operators
-  opposite : (x : Expr) → Valued x → Valued (e.Neg x)
-  opposite x part next ls asked =
+  opposite_valued : (a : Lowered) (next : ℕ) (ls : List ℤ) (z : ℤ) → IsValued ts a next ls z → IsValued ts (opposite a) next ls (negated z)
+  opposite_valued a next ls z got = record {
+    long = got.long;
+    kept = got.kept;
+    grows = got.grows;
+    value = λ ks same. value_neg ts ks a.value ∙ ap negated (got.value ks same);
+  }
+
+  turned : (x : Expr) → Valued x → Valued (e.Neg x)
+  turned x part next ls asked =
       let inner = value_code h x next in
       let z = language.value_of x vars fs in
       let code = code_neg h next x in
+      let room : (rested inner).next + 1 ≤ length ls = subst (λ (v : Lowered). v.next + 1 ≤ length ls) code asked.room in
       let got = part next ls (record {
         named = sym (named_neg s x) ∙ asked.named;
         reads = sym (reads_neg fs x) ∙ asked.reads;
         small = sym (small_neg vars x) ∙ asked.small;
         bound = asked.bound;
         agree = asked.agree;
-        room = subst (λ (v : Lowered). v.next + 1 ≤ length ls) code asked.room;
+        room = omega (arith, room, rested_grows h inner);
       }) in
-      by_equations (value_code h (e.Neg x) next) (lowered inner.steps (Neg inner.value) inner.next) next ls (language.value_of (e.Neg x) vars fs) (negated z) code (meant.value_neg vars fs x) (record {
-        long = got.long;
-        kept = got.kept;
-        grows = got.grows;
-        value = λ ks same. value_neg ts ks inner.value ∙ ap negated (got.value ks same);
-      })
+      by_equations (value_code h (e.Neg x) next) (opposite (rested inner)) next ls (language.value_of (e.Neg x) vars fs) (negated z) code (meant.value_neg vars fs x)
+      (opposite_valued (rested inner) next ls z (rested_valued (is_shallow inner.depth) inner next ls z (omega (arith, room)) got))
 
   -- one after the other
   both_valued : (op : Op) (a b : Lowered) (next : ℕ) (ls : List ℤ) (y z : ℤ) → IsValued ts a next ls y → IsValued ts b a.next (stepped ts a.steps ls) z → IsValued ts (two_after op a b) next ls (operate op y z)
@@ -141,7 +163,8 @@ module _ (h : Heads) (ts : ℕ → Tensor) (fs : Tensors) (s : Scope) (vars : Nu
 
   pair : (op : Op) (x y : Expr) → Valued x → Valued y → Valued (e.Two op x y)
   pair op x y one other next ls asked =
-      let a = value_code h x next in
+      let first_code = value_code h x next in
+      let a = rested first_code in
       let b = value_code h y a.next in
       let code = code_two h next op x y in
       let named = sym (named_two s op x y) ∙ asked.named in
@@ -149,14 +172,14 @@ module _ (h : Heads) (ts : ℕ → Tensor) (fs : Tensors) (s : Scope) (vars : Nu
       let small = sym (small_two vars op x y) ∙ asked.small in
       let room : b.next + 1 ≤ length ls = subst (λ (v : Lowered). v.next + 1 ≤ length ls) code asked.room in
       let more : a.next ≤ b.next = code_grows h y a.next in
-      let first = one next ls (record {
+      let first = rested_valued (is_shallow first_code.depth) first_code next ls (language.value_of x vars fs) (omega (arith, room, more)) (one next ls (record {
         named = left (is_named_expr x s) (is_named_expr y s) named;
         reads = left (can_read x fs) (can_read y fs) reads;
         small = left (has_small_indices x vars) (has_small_indices y vars) small;
         bound = asked.bound;
         agree = asked.agree;
-        room = omega (arith, room, more);
-      }) in
+        room = omega (arith, room, more, rested_grows h first_code);
+      })) in
       let middle = stepped ts a.steps ls in
       let second = other a.next middle (record {
         named = right (is_named_expr x s) (is_named_expr y s) named;
@@ -170,7 +193,7 @@ module _ (h : Heads) (ts : ℕ → Tensor) (fs : Tensors) (s : Scope) (vars : Nu
       (both_valued op a b next ls (language.value_of x vars fs) (language.value_of y vars fs) first second)
 
   kinds : Kinds Valued
-  kinds = record { num = num; var = var; read = access; neg = opposite; two = pair }
+  kinds = record { num = num; var = var; read = access; neg = turned; two = pair }
 
   all_valued : (x : Expr) → Valued x
   all_valued = by_kind Valued kinds

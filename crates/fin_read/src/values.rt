@@ -3,12 +3,13 @@ ghost use Rattle.std.specs.Prelude.{◌≡◌, ◌+◌, ◌≤◌, ◌<◌, ◌^
 ghost use Rattle.fin_tensor.specs.Levels.{AreSmall};
 ghost use Rattle.fin_ir.specs.declared.expression.IExpr.TheVariants as made;
 ghost use Rattle.fin_tensor.specs.Building as building;
+ghost use Rattle.fin_ast.specs.Spine.{expr_of};
 ghost use Rattle.fin_read.specs.Steps.{Appends};
 ghost use Rattle.fin_read.specs.Values as spec;
 
 use crate::parts::{Place, neg, two};
 use crate::reads::{push_first, push_last, push_levels};
-use fin_ast::{Expr, Header, Index};
+use fin_ast::{Expr, Head, Header, Index};
 use fin_base::Op;
 use fin_ir::{Code, IExpr};
 use fin_tensor::{Duplicate, Format, Nums, Seq, Wrap};
@@ -38,14 +39,21 @@ impl<'a> Model for Heads<'a> {
     ghost invariant = { λ h. AreShapes h.shapes.now };
 }
 
-/// An expression over what its accesses leave, and the first local that is free behind them.
+/// How many nodes of an expression of loop code stand one in another along its left side, at most.
+const MOST_DEEP: u32 = 64;
+
+/// An expression over what its accesses leave, how deep it goes along its left side, and the first local that is free
+/// behind it.
 #[derive(Drop)]
 pub struct Value {
     pub expr: IExpr,
+    pub depth: u32,
     pub next: u32,
 }
 
-/// Appends the code of the accesses of an expression, and gives the expression over what they leave.
+/// Appends the code of the accesses of an expression, and gives the expression over what they leave. A sum may have
+/// millions of terms, and groups to the left: it is gone along in a loop, and its code goes over locals.
+#[cycle(valued)]
 pub fn push_value(
     alloc: Global,
     into: &mut Items<Code>,
@@ -54,36 +62,84 @@ pub fn push_value(
     next: u32,
 ) -> Result<Value, AllocError>
     ensures value { IfOk result (λ v. v.expr ≡ (spec.value_code heads.now e.now next).value) }
+    ensures depth { IfOk result (λ v. v.depth ≡ (spec.value_code heads.now e.now next).depth) }
     ensures next { IfOk result (λ v. v.next ≡ (spec.value_code heads.now e.now next).next) }
+    ensures shallow { IfOk result (λ v. v.depth ≤ spec.most_deep) }
     ensures code { OnOk result (into.new ≡ into.old ++ spec.prelude (spec.value_code heads.now e.now next)) }
 {
-    match e {
-        Expr::Num(value) => Ok(valued(IExpr::Num(*value), next)),
-        Expr::Var { var, line: _ } => Ok(valued(IExpr::Local(*var), next)),
-        Expr::Read {
+    let spine = e.spine(alloc)?;
+    let mut value = push_head(alloc, into, heads, spine.head, next)?;
+    let mut sides = spine.sides;
+    while let Some((op, right)) = sides.pop() {
+        let left = rested(into, value)?;
+        let right = push_value(alloc, into, heads, right, left.next)?;
+        let expr = two(alloc, op, left.expr, right.expr)?;
+        value = valued(expr, left.depth + 1, right.next);
+    }
+    Ok(value)
+}
+
+#[cycle(valued)]
+fn push_head(
+    alloc: Global,
+    into: &mut Items<Code>,
+    heads: &Heads<'_>,
+    head: Head<'_>,
+    next: u32,
+) -> Result<Value, AllocError>
+    ensures value { IfOk result (λ v. v.expr ≡ (spec.value_code heads.now (expr_of head.entry) next).value) }
+    ensures depth { IfOk result (λ v. v.depth ≡ (spec.value_code heads.now (expr_of head.entry) next).depth) }
+    ensures next { IfOk result (λ v. v.next ≡ (spec.value_code heads.now (expr_of head.entry) next).next) }
+    ensures shallow { IfOk result (λ v. v.depth ≤ spec.most_deep) }
+    ensures code { let v = spec.value_code heads.now (expr_of head.entry) next in
+        OnOk result (into.new ≡ into.old ++ spec.prelude v) }
+{
+    match head {
+        Head::Num(value) => Ok(valued(IExpr::Num(value), 0, next)),
+        Head::Var { var, line: _ } => Ok(valued(IExpr::Local(var), 0, next)),
+        Head::Read {
             tensor,
             at,
             line: _,
-        } => push_access(alloc, into, heads, *tensor, at.as_slice(), next),
-        Expr::Neg(inner) => {
-            let inner = push_value(alloc, into, heads, inner.get(), next)?;
+        } => push_access(alloc, into, heads, tensor, at.as_slice(), next),
+        Head::Neg(inner) => {
+            let value = push_value(alloc, into, heads, inner, next)?;
+            let inner = rested(into, value)?;
             let expr = neg(alloc, inner.expr)?;
-            Ok(valued(expr, inner.next))
-        }
-        Expr::Two { op, left, right } => {
-            let left = push_value(alloc, into, heads, left.get(), next)?;
-            let right = push_value(alloc, into, heads, right.get(), left.next)?;
-            let expr = two(alloc, *op, left.expr, right.expr)?;
-            Ok(valued(expr, right.next))
+            Ok(valued(expr, inner.depth + 1, inner.next))
         }
     }
 }
 
-fn valued(expr: IExpr, next: u32) -> Value
+// The expression, or the local in which it is set down where it is deep.
+fn rested(into: &mut Items<Code>, v: Value) -> Result<Value, AllocError>
+    ensures value { IfOk result (λ r. r.expr ≡ spec.rest_value (spec.is_shallow v.depth) v.expr v.next) }
+    ensures depth { IfOk result (λ r. r.depth ≡ spec.rest_depth (spec.is_shallow v.depth) v.depth) }
+    ensures next { IfOk result (λ r. r.next ≡ spec.rest_next (spec.is_shallow v.depth) v.next) }
+    ensures shallow { IfOk result (λ r. r.depth < spec.most_deep) }
+    ensures code { let steps = spec.rest_steps (spec.is_shallow v.depth) v.expr v.next in
+        OnOk result (Appends into.old into.new steps) }
+{
+    if v.depth < MOST_DEEP {
+        return Ok(v);
+    }
+    if v.next == 4294967295 {
+        return Err(AllocError);
+    }
+    let local = v.next;
+    into.push(Code::Assign {
+        local,
+        value: v.expr,
+    })?;
+    Ok(valued(IExpr::Local(local), 0, local + 1))
+}
+
+fn valued(expr: IExpr, depth: u32, next: u32) -> Value
     ensures expr { result.expr ≡ expr }
+    ensures depth { result.depth ≡ depth }
     ensures next { result.next ≡ next }
 {
-    Value { expr, next }
+    Value { expr, depth, next }
 }
 
 // Appends the code of an access, which leaves its value in the local `next`. There is no memory for as many locals as a
@@ -97,6 +153,7 @@ fn push_access(
     next: u32,
 ) -> Result<Value, AllocError>
     ensures value { IfOk result (λ v. v.expr ≡ made.Local next) }
+    ensures depth { IfOk result (λ v. v.depth ≡ 0) }
     ensures next { IfOk result (λ v. v.next ≡ next + 1) }
     ensures code { OnOk result (Appends into.old into.new (spec.access_steps heads.now tensor at.now next)) }
 {
@@ -121,7 +178,7 @@ fn push_access(
         xs.as_slice(),
     )?;
     push_last(alloc, into, tensor, format.fill, next)?;
-    Ok(valued(IExpr::Local(next), next + 1))
+    Ok(valued(IExpr::Local(next), 0, next + 1))
 }
 
 /// The code of each index.
