@@ -1,6 +1,7 @@
 -- The layout has the locals and tensors that the code of expressions names.
-use Rattle.std.proofs.Common.{◌≡◌, ℕ, ◌+◌, ◌<◌, ◌≤◌, Bool, true, false, ◌&&◌, List, [], ◌∷◌, ◌++◌, map, length, Option, Some, None, refl, sym, ◌∙◌, subst, ℤ, pos, arith}
+use Rattle.std.proofs.Common.{◌≡◌, ℕ, ◌+◌, ◌<◌, ◌≤◌, Bool, true, false, if◌then◌else◌, ◌&&◌, List, [], ◌∷◌, ◌++◌, map, length, Option, Some, None, refl, sym, ◌∙◌, subst, ℤ, pos, arith}
 use Rattle.std.specs.Prelude.{slice_get, ◌==◌}
+use Rattle.std.specs.Ordering.{int_eq}
 use Rattle.std.specs.List.{list_all}
 use Rattle.std.proofs.lemmas.Bool.{lt-ltb}
 use Rattle.fin_base.specs.declared.terms.Op.{Op}
@@ -23,7 +24,7 @@ use Rattle.fin_stage.proofs.Alive.{left, right, both, holds_there}
 use Rattle.fin_read.specs.Steps.{Step, assign_of}
 use Rattle.fin_read.specs.Reads.{none, in_extent, in_box, fibre_begin, fibre_end, where_placed, sought, found, in_block, step_to, level_steps, levels_steps, last_step, read_steps, place_of}
 use Rattle.fin_read.specs.Counts.{below_level, count_from, count_code}
-use Rattle.fin_read.specs.Values.{Heads, Lowered, format_of, shape_of, var_code, index_code, is_shallow, rested_where, rested, value_code, prelude}
+use Rattle.fin_read.specs.Values.{Heads, Lowered, format_of, shape_of, vars_code, index_code, is_shallow, rested_where, rested, value_code, prelude}
 use Rattle.fin_read.specs.Means.{IsWithin, ValuesAreNamed}
 use Rattle.fin_read.proofs.ByKind.{Kinds, by_kind}
 use Rattle.fin_read.proofs.Equations.{code_num, code_var, code_read, code_neg, code_two, named_var, named_read, named_neg, named_two, code_grows, rested_grows}
@@ -171,16 +172,24 @@ module _ (layout : Layout) where
 
   -- ---- indices
   module _ (s : Scope) (within : (var : ℕ) → is_loop s (Some var) ≡ true → HasLocal var) where
-    var_named : (o : Option ℕ) → is_loop s o ≡ true → Named (var_code o)
-    var_named None is = num (pos 0)
-    var_named (Some var) is = local var (within var is)
+    var_named : (var : ℕ) → is_loop s (Some var) ≡ true → Named (Local var)
+    var_named var is = local var (within var is)
+
+    vars_named : (a b : Option ℕ) → is_loop s a ≡ true → is_loop s b ≡ true → Named (vars_code a b)
+    vars_named None None ea eb = num (pos 0)
+    vars_named None (Some b) ea eb = var_named b eb
+    vars_named (Some a) None ea eb = var_named a ea
+    vars_named (Some a) (Some b) ea eb = two op.Add (Local a) (Local b) (var_named a ea) (var_named b eb)
+
+    moved_named : (e : IExpr) (k : ℤ) (same : Bool) → Named e → Named (if same then e else Two op.Add e (Num k))
+    moved_named e k true is = is
+    moved_named e k false is = two op.Add e (Num k) is (num k)
 
     index_named : (i : Index) → is_index s i ≡ true → Named (index_code i)
     index_named i is =
         let loops : (is_loop s i.first && is_loop s i.second) ≡ true = left (is_loop s i.first && is_loop s i.second) (differ i.first i.second) is in
-        two op.Add (Two op.Add (var_code i.first) (var_code i.second)) (Num i.offset)
-        (two op.Add (var_code i.first) (var_code i.second) (var_named i.first (left (is_loop s i.first) (is_loop s i.second) loops)) (var_named i.second (right (is_loop s i.first) (is_loop s i.second) loops)))
-        (num i.offset)
+        moved_named (vars_code i.first i.second) i.offset (int_eq i.offset (pos 0))
+        (vars_named i.first i.second (left (is_loop s i.first) (is_loop s i.second) loops) (right (is_loop s i.first) (is_loop s i.second) loops))
 
     pub indices_named : (at : List Index) → list_all (is_index s) at ≡ true → AllNamed (map index_code at)
     indices_named [] all = refl

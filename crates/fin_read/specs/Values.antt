@@ -1,7 +1,8 @@
 -- The code of expressions: first each access leaves its value in a local of its own, then there is an expression of loop
 -- code over these and the variables, each of which has the local of its number. A long chain of operators goes over
 -- locals, so that no expression of loop code is deep.
-use Rattle.std.specs.Prelude.{ℕ, ◌+◌, pos, List, [], ◌∷◌, ◌++◌, map, Bool, nat_lt, if◌then◌else◌, Option, Some, None, unwrap_or, option_map, slice_get, slice_index_or}
+use Rattle.std.specs.Prelude.{ℕ, ◌+◌, pos, List, [], ◌∷◌, ◌++◌, map, Bool, nat_lt, if◌then◌else◌, Option, Some, None, unwrap_or, option_map, slice_get, slice_index_or, ℤ}
+use Rattle.std.specs.Ordering.{int_eq}
 use Rattle.fin_base.specs.declared.terms.Op.{Op}
 use Rattle.fin_base.specs.declared.terms.Op.TheVariants as op
 use Rattle.fin_tensor.specs.declared.format.Format.{Format}
@@ -43,12 +44,18 @@ pub record Lowered : Type 0 where
   pub depth : ℕ
   pub next : ℕ
 
-abbrev pub var_code : Option ℕ → IExpr
-var_code None = Num (pos 0)
-var_code (Some var) = Local var
+-- the sum of an index, without what isn't there: most have one variable alone
+abbrev pub vars_code : Option ℕ → Option ℕ → IExpr
+vars_code None None = Num (pos 0)
+vars_code None (Some var) = Local var
+vars_code (Some var) None = Local var
+vars_code (Some first) (Some second) = Two op.Add (Local first) (Local second)
+
+abbrev pub moved_code : IExpr → ℤ → IExpr
+moved_code sum offset = if int_eq offset (pos 0) then sum else Two op.Add sum (Num offset)
 
 abbrev pub index_code : Index → IExpr
-index_code i = Two op.Add (Two op.Add (var_code i.first) (var_code i.second)) (Num i.offset)
+index_code i = moved_code (vars_code i.first i.second) i.offset
 
 -- an access, whose value is left in a local
 abbrev pub access_steps : Heads → ℕ → List Index → ℕ → List Step

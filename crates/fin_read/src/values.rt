@@ -123,7 +123,7 @@ fn rested(into: &mut Items<Code>, v: Value) -> Result<Value, AllocError>
     if v.depth < MOST_DEEP {
         return Ok(v);
     }
-    if v.next == 4294967295 {
+    if v.next == u32::MAX {
         return Err(AllocError);
     }
     let local = v.next;
@@ -157,7 +157,7 @@ fn push_access(
     ensures next { IfOk result (λ v. v.next ≡ next + 1) }
     ensures code { OnOk result (Appends into.old into.new (spec.access_steps heads.now tensor at.now next)) }
 {
-    if next == 4294967295 {
+    if next == u32::MAX {
         return Err(AllocError);
     }
     let format = format_of(alloc, heads, tensor)?;
@@ -196,18 +196,26 @@ pub fn index_codes(alloc: Global, at: &[Index]) -> Result<Seq<IExpr>, AllocError
 fn index_code(alloc: Global, index: Index) -> Result<IExpr, AllocError>
     ensures { IfOk result (λ e. e ≡ spec.index_code index) }
 {
-    let first = var_code(index.first);
-    let second = var_code(index.second);
-    let sum = two(alloc, Op::Add, first, second)?;
+    let sum = vars_code(alloc, index.first, index.second)?;
+    if index.offset == 0 {
+        return Ok(sum);
+    }
     two(alloc, Op::Add, sum, IExpr::Num(index.offset))
 }
 
-fn var_code(var: Option<u32>) -> IExpr
-    ensures { result ≡ spec.var_code var }
+fn vars_code(alloc: Global, first: Option<u32>, second: Option<u32>) -> Result<IExpr, AllocError>
+    ensures { IfOk result (λ e. e ≡ spec.vars_code first second) }
 {
-    match var {
-        None => IExpr::Num(0),
-        Some(var) => IExpr::Local(var),
+    match (first, second) {
+        (None, None) => Ok(IExpr::Num(0)),
+        (None, Some(var)) => Ok(IExpr::Local(var)),
+        (Some(var), None) => Ok(IExpr::Local(var)),
+        (Some(first), Some(second)) => two(
+            alloc,
+            Op::Add,
+            IExpr::Local(first),
+            IExpr::Local(second),
+        ),
     }
 }
 

@@ -18,7 +18,7 @@ push_value-loop-op-preserved t c =
     let right = c.in_ok-right.right in
     let value = c.valued-value.result in
     let set_down : IsSetDown c.loop-op.into c.rested.new.into before.expr left.expr before.depth left.depth before.next left.next =
-        record { value = c.in_ok-left.ensures.value; deep = c.in_ok-left.ensures.depth; free = c.in_ok-left.ensures.next; code = c.in_ok-left.ensures.code } in
+    record { value = c.in_ok-left.ensures.value; deep = c.in_ok-left.ensures.depth; free = c.in_ok-left.ensures.next; code = c.in_ok-left.ensures.code } in
     record {
       pushed = goes_up c.args.e.now c.loop-op.sides.items c.pop.new.self.items c.in-Some.op c.in-Some.right _ (λ x. IsPushed base c.push_value.new.into value.expr value.depth value.next (value_code h x c.args.next))
           c.loop-op.invariant.pushed c.in-Some.ensures.items
