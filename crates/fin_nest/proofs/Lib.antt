@@ -12,3 +12,5 @@ pub mod Repeated
 pub mod Keeping
 pub mod Performing
 pub mod Both
+pub mod Filling
+pub mod Joined

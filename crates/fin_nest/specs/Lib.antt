@@ -7,3 +7,5 @@ pub mod Both
 pub mod Frames
 pub mod Courses
 pub mod Styles
+pub mod Entries
+pub mod Joins

@@ -17,12 +17,21 @@
 //! that perform statements (`specs/Performs.antt`) do so one after another, under a condition, as a nest that code
 //! means, and as a nest's body; what performs a statement for machines that do what a run does performs it in both
 //! senses; and updates that change nothing may be left out.
+//!
+//! What the styles' steps share is here too: the looplets of reads and masks under their numbers (`Numbered`), frames,
+//! which are codes with a `Skip` for each part (`specs/Frames.antt`), and `fill`, which puts the parts' codes there.
 #![tactic(auto)]
 
+mod entries;
+mod frames;
 mod laws;
+mod terms;
 
+pub use entries::Numbered;
+pub use frames::fill;
 pub use laws::{
     bodies_mean, charges_are_work, cut_machines_stand, cut_statements_stand, folds_are_loops,
     regions_fall_apart, senses_are_lawful, skipped_updates_stand, statements_compose,
     statements_lift, turns_are_free,
 };
+pub use terms::{copy_ends, two, when};

@@ -6,12 +6,13 @@ use Rattle.fin_ir.specs.declared.expression.IExpr.TheVariants.{Num}
 use Rattle.fin_looplet.specs.declared.looplet.Looplet.{Looplet}
 use Rattle.fin_looplet.specs.declared.looplet.Looplet.TheVariants.{Run, Spike, Lookup, Sequence', Stepper', Jumper', Switch', Shift'}
 use Rattle.fin_nest.specs.Styles.{switch, has}
-use Rattle.fin_style_point.specs.declared.nest.Numbered.{Numbered}
+use Rattle.fin_nest.specs.declared.entries.Numbered.{Numbered}
+use Rattle.fin_nest.specs.Entries.{looplets}
 use Rattle.fin_style_point.specs.declared.nest.Nest as plain
 use Rattle.fin_style_point.specs.declared.nest.Branch.{Branch}
 use Rattle.fin_style_point.specs.declared.nest.Branch.TheVariants.{Taken, Others}
 use Rattle.fin_style_point.specs.Steps.{is_switch, Alternatives, alternatives, Choice, here_or_later, first_switch}
-use Rattle.fin_style_point.specs.Parts.{looplets, all_looplets, side, side_of, choose, test_or, test_of, first_test, nest_test}
+use Rattle.fin_style_point.specs.Parts.{all_looplets, side, side_of, choose, test_or, test_of, first_test, nest_test}
 
 same_some : {A : Type 0} (a b : A) → Some a ≡ Some b → a ≡ b
 same_some a b e = cc

@@ -13,15 +13,16 @@ use Rattle.fin_nest.specs.Senses.{runs, Tallied, turns}
 use Rattle.fin_nest.proofs.Senses.{runs_lawful, turns_lawful}
 use Rattle.fin_nest.specs.Courses.{Behind, nest_with, course_weight}
 use Rattle.fin_nest.specs.Styles.{switch, has, style_of, is_point_style}
-use Rattle.fin_style_point.specs.declared.nest.Numbered.{Numbered}
+use Rattle.fin_nest.specs.declared.entries.Numbered.{Numbered}
+use Rattle.fin_nest.specs.Entries.{looplets, with_looplet, numbers}
 use Rattle.fin_style_point.specs.declared.nest.Nest as plain
 use Rattle.fin_style_point.specs.declared.nest.Parts.{Parts}
 use Rattle.fin_style_point.specs.declared.nest.Branch.{Branch}
 use Rattle.fin_style_point.specs.declared.nest.Branch.TheVariants.{Taken, Others}
 use Rattle.fin_style_point.specs.Steps.{is_switch, unshifted, held, first_switch}
 use Rattle.fin_style_point.specs.Laws.{weight_in, SwitchSplits}
-use Rattle.fin_style_point.specs.Parts.{looplets, all_looplets, course_of, with_looplet, shift_part, spike_part, chosen, choose, switch_part, point_part, parts_of}
-use Rattle.fin_style_point.specs.Splits.{Lighter, SeparateOver, StaySeparate, numbers, OfNest, AreOfNest, PartsAreStepped}
+use Rattle.fin_style_point.specs.Parts.{all_looplets, course_of, shift_part, spike_part, chosen, choose, switch_part, point_part, parts_of}
+use Rattle.fin_style_point.specs.Splits.{Lighter, SeparateOver, StaySeparate, OfNest, AreOfNest, PartsAreStepped}
 use Rattle.fin_style_point.proofs.Chosen.{Found, found}
 use Rattle.fin_style_point.proofs.Flatness.{has_shift, has_spike}
 use Rattle.fin_style_point.proofs.Shifts.{shift_splits}

@@ -13,14 +13,15 @@ use Rattle.fin_nest.specs.Laws.{Lawful}
 use Rattle.fin_nest.specs.Frames.{fill}
 use Rattle.fin_nest.specs.Courses.{Course, Behind, nest_with, course_weight, Meant, MeantAll}
 use Rattle.fin_nest.specs.Styles.{Style, head, same_style, shift, switch, spike, has, style_of, is_point_style}
-use Rattle.fin_style_point.specs.declared.nest.Numbered.{Numbered}
+use Rattle.fin_nest.specs.declared.entries.Numbered.{Numbered}
+use Rattle.fin_nest.specs.Entries.{looplets, with_looplet}
 use Rattle.fin_style_point.specs.declared.nest.Nest as plain
 use Rattle.fin_style_point.specs.declared.nest.Parts.{Parts}
 use Rattle.fin_style_point.specs.declared.nest.Branch.{Branch}
 use Rattle.fin_style_point.specs.declared.nest.Branch.TheVariants.{Taken, Others}
 use Rattle.fin_style_point.specs.Steps.{unshifted, shift_nest, spike_nest, Choice, first_switch, switch_nest, either_code, held, coordinates, each_code, point_nest, AllFlat}
 use Rattle.fin_style_point.specs.Laws.{SwitchSplits}
-use Rattle.fin_style_point.specs.Parts.{looplets, all_looplets, course_of, with_looplet, one_part, nest_has, parts_of}
+use Rattle.fin_style_point.specs.Parts.{all_looplets, course_of, one_part, nest_has, parts_of}
 use Rattle.fin_style_point.specs.Parts.{shift_part, spike_part, switch_part, switch_frame, switch_parts, nest_test, point_part, loop_frame}
 use Rattle.fin_style_point.specs.Splits.{Asked, SplitsIn}
 use Rattle.fin_style_point.proofs.Filled.{fill_skip, fill_either, fill_loop}

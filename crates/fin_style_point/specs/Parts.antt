@@ -7,17 +7,15 @@ use Rattle.fin_ir.specs.declared.code.Code.TheVariants.{Skip, Seq, ForLoop}
 use Rattle.fin_looplet.specs.declared.looplet.Case.{Case}
 use Rattle.fin_looplet.specs.declared.looplet.Looplet.{Looplet}
 use Rattle.fin_looplet.specs.Cut.{plus, cut}
+use Rattle.fin_nest.specs.declared.entries.Numbered.{Numbered}
+use Rattle.fin_nest.specs.Entries.{looplets, with_looplet}
 use Rattle.fin_nest.specs.Courses.{Course}
 use Rattle.fin_nest.specs.Styles.{Style, shift, switch, spike, has}
-use Rattle.fin_style_point.specs.declared.nest.Numbered.{Numbered}
 use Rattle.fin_style_point.specs.declared.nest.Nest.{Nest}
 use Rattle.fin_style_point.specs.declared.nest.Parts.{Parts}
 use Rattle.fin_style_point.specs.declared.nest.Branch.{Branch}
 use Rattle.fin_style_point.specs.declared.nest.Branch.TheVariants.{Taken, Others}
 use Rattle.fin_style_point.specs.Steps.{unshifted, nothing_there, switch_of, is_switch, Alternatives, alternatives, either_code, held, coordinates, hold}
-
-abbrev pub looplets : List Numbered → List Looplet
-looplets = map (λ e. e.looplet)
 
 -- the looplets of the reads, and then those of the masks
 abbrev pub all_looplets : Nest → List Looplet
@@ -25,10 +23,6 @@ all_looplets n = looplets n.reads ++ looplets n.masks
 
 abbrev pub course_of : Nest → Course
 course_of n = record { var = n.var; lo = n.lo; hi = n.hi; next = n.next; reads = all_looplets n }
-
--- an entry with another looplet
-abbrev pub with_looplet : (Looplet → Looplet) → Numbered → Numbered
-with_looplet f e = record { number = e.number; looplet = f e.looplet }
 
 abbrev pub with_looplets : Nest → List Numbered → List Numbered → Nest
 with_looplets n reads masks = record n { reads = reads; masks = masks }

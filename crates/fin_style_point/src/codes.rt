@@ -4,7 +4,8 @@ ghost use Rattle.fin_style_point.specs.Steps.{either_code, within_code};
 
 use fin_base::Op;
 use fin_ir::{Code, IExpr};
-use sqlite_items::{Boxed, Items};
+use fin_nest::{two, when};
+use sqlite_items::Items;
 use std::alloc::{AllocError, Global};
 
 /// The first part where the test isn't 0, and else the second one; the test's value stands in the local.
@@ -33,19 +34,4 @@ pub fn within_code(alloc: Global, lo: IExpr, hi: IExpr, once: Code) -> Result<Co
 {
     let some = two(alloc, Op::Lt, lo, hi)?;
     when(alloc, some, once)
-}
-
-fn when(alloc: Global, test: IExpr, body: Code) -> Result<Code, AllocError>
-    ensures { IfOk result (λ c. c ≡ Code.When test body) }
-{
-    let body = Boxed::new(alloc, body)?;
-    Ok(Code::When { test, body })
-}
-
-fn two(alloc: Global, op: Op, left: IExpr, right: IExpr) -> Result<IExpr, AllocError>
-    ensures { IfOk result (λ e. e ≡ IExpr.Two op left right) }
-{
-    let left = Boxed::new(alloc, left)?;
-    let right = Boxed::new(alloc, right)?;
-    Ok(IExpr::Two { op, left, right })
 }

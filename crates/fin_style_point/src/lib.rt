@@ -25,5 +25,5 @@ pub use laws::{
     fixed_is_at_once, loops_split, nothing_is_skipped, parts_are_stepped, shifts_split,
     spikes_split, switches_split,
 };
-pub use nest::{Branch, Frame, Nest, Numbered, Parts};
+pub use nest::{Branch, Frame, Nest, Parts};
 pub use reads::{cut_all, held_all, unshifted_all};

@@ -1,15 +1,8 @@
 //! Nests and their parts.
 use fin_ast::Stmt;
 use fin_ir::{Code, IExpr};
-use fin_looplet::Looplet;
+use fin_nest::Numbered;
 use sqlite_items::Items;
-
-/// What a read sees, by its number in the order of the text; or a mask, by the number of its `if`.
-#[derive(Debug, Drop)]
-pub struct Numbered {
-    pub number: u32,
-    pub looplet: Looplet,
-}
 
 /// The loop from `lo` on and before `hi` over the body, with the variable in the local `var`. `next` is above each
 /// local that it names.

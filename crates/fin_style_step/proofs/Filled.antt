@@ -1,48 +1,16 @@
 -- Frames of the steps, filled with codes.
-use Rattle.std.proofs.Common.{◌≡◌, ℕ, ◌+◌, List, [], ◌∷◌, ◌++◌, map, refl, ap, ◌∙◌}
+use Rattle.std.proofs.Common.{◌≡◌, ℕ, ◌+◌, List, [], ◌∷◌, ◌++◌, refl, ap, ◌∙◌}
 use Rattle.fin_ir.specs.declared.expression.IExpr.{IExpr}
 use Rattle.fin_ir.specs.declared.expression.IExpr.TheVariants.{Local}
 use Rattle.fin_ir.specs.declared.code.Code.{Code}
 use Rattle.fin_ir.specs.declared.code.Code.TheVariants.{Skip, Seq, Assign, StepLoop}
-use Rattle.fin_ir.proofs.Nodes.{of_skip, of_seq, of_assign, of_step_loop}
 use Rattle.fin_looplet.specs.declared.looplet.Walker.{Walker}
 use Rattle.fin_looplet.specs.Cut.{before}
-use Rattle.fin_nest.specs.Frames.{Filling, fill_each, next_code, filling_step, filling, fill}
+use Rattle.fin_nest.specs.Frames.{filling, fill}
+use Rattle.fin_nest.proofs.Filling.{filled_step_loop, Filled, one_more, seq_filled, assign_more, skip_more}
 use Rattle.fin_style_step.specs.Steps.{divide_at, divided_code, place, jump}
 
--- ---- what each kind of code becomes
-
-filled_skip : (cs : List Code) → filling Skip cs ≡ next_code cs
-filled_skip cs = ap (λ (f : Filling). f cs) (of_skip Filling filling_step)
-
-filled_seq : (all cs : List Code) → filling (Seq all) cs ≡ (Seq (fill_each (map filling all) cs).0, (fill_each (map filling all) cs).1)
-filled_seq all cs = ap (λ (f : Filling). f cs) (of_seq Filling filling_step all)
-
-filled_assign : (local : ℕ) (value : IExpr) (cs : List Code) → filling (Assign local value) cs ≡ (Assign local value, cs)
-filled_assign local value cs = ap (λ (f : Filling). f cs) (of_assign Filling filling_step local value)
-
-filled_step_loop : (var until : ℕ) (lo hi stop : IExpr) (body : Code) (cs : List Code)
-    → filling (StepLoop var until lo hi stop body) cs ≡ (StepLoop var until lo hi stop (filling body cs).0, (filling body cs).1)
-filled_step_loop var until lo hi stop body cs = ap (λ (f : Filling). f cs) (of_step_loop Filling filling_step var until lo hi stop body)
-
 -- ---- several codes
-
-abbrev Filled : List Code → List Code → List Code → List Code → Type 0
-Filled all cs done left = fill_each (map filling all) cs ≡ (done, left)
-
-one_more : (c d : Code) (rest done cs ds left : List Code) → filling c cs ≡ (d, ds) → Filled rest ds done left → Filled (c ∷ rest) cs (d ∷ done) left
-one_more c d rest done cs ds left e h =
-    ap (λ (r : Code × List Code). (r.0 ∷ (fill_each (map filling rest) r.1).0, (fill_each (map filling rest) r.1).1)) e
-    ∙ ap (λ (r : List Code × List Code). (d ∷ r.0, r.1)) h
-
-seq_filled : (all done cs left : List Code) → Filled all cs done left → filling (Seq all) cs ≡ (Seq done, left)
-seq_filled all done cs left h = filled_seq all cs ∙ ap (λ (r : List Code × List Code). (Seq r.0, r.1)) h
-
-assign_more : (x : ℕ) (e : IExpr) (rest done cs left : List Code) → Filled rest cs done left → Filled (Assign x e ∷ rest) cs (Assign x e ∷ done) left
-assign_more x e rest done cs left h = one_more (Assign x e) (Assign x e) rest done cs cs left (filled_assign x e cs) h
-
-skip_more : (c : Code) (rest done cs left : List Code) → Filled rest cs done left → Filled (Skip ∷ rest) (c ∷ cs) (c ∷ done) left
-skip_more c rest done cs left h = one_more Skip c rest done (c ∷ cs) cs left (filled_skip (c ∷ cs)) h
 
 -- behind codes that place walkers
 placed_more : (ws : List Walker) (at : IExpr) (more done cs left : List Code) → Filled more cs done left → Filled (place ws at ++ more) cs (place ws at ++ done) left

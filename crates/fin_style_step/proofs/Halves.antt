@@ -6,10 +6,11 @@ use Rattle.fin_looplet.specs.declared.looplet.Looplet.{Looplet}
 use Rattle.fin_looplet.specs.declared.looplet.Looplet.TheVariants.{Run, Spike, Lookup, Sequence', Stepper', Jumper', Switch', Shift'}
 use Rattle.fin_looplet.specs.Cut.{cut}
 use Rattle.fin_nest.specs.Styles.{sequence, has}
-use Rattle.fin_style_step.specs.declared.nest.Numbered.{Numbered}
+use Rattle.fin_nest.specs.declared.entries.Numbered.{Numbered}
+use Rattle.fin_nest.specs.Entries.{looplets}
 use Rattle.fin_style_step.specs.declared.nest.Nest as plain
 use Rattle.fin_style_step.specs.Steps.{Phased, phased, Division, here_or_later, first_sequence}
-use Rattle.fin_style_step.specs.Parts.{looplets, all_looplets, is_sequence, before_stop, behind_stop, here_one, others_one, by_first, here_all, others_all, stop_of, or_else, first_stop, nest_stop}
+use Rattle.fin_style_step.specs.Parts.{all_looplets, is_sequence, before_stop, behind_stop, here_one, others_one, by_first, here_all, others_all, stop_of, or_else, first_stop, nest_stop}
 use Rattle.fin_style_step.proofs.Phases.{same_some}
 
 abbrev given : Option Phased → Bool

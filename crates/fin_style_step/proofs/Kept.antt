@@ -12,7 +12,8 @@ use Rattle.fin_nest.specs.Laws.{Lawful}
 use Rattle.fin_nest.specs.Senses.{Tallied}
 use Rattle.fin_nest.specs.Courses.{Behind, nest_with, course_weight}
 use Rattle.fin_nest.specs.Styles as style
-use Rattle.fin_style_step.specs.declared.nest.Numbered.{Numbered}
+use Rattle.fin_nest.specs.declared.entries.Numbered.{Numbered}
+use Rattle.fin_nest.specs.Entries.{numbers}
 use Rattle.fin_style_step.specs.declared.nest.Nest as plain
 use Rattle.fin_style_step.specs.declared.nest.Parts.{Parts}
 use Rattle.fin_style_step.specs.declared.nest.Kind.{Kind}
@@ -20,7 +21,7 @@ use Rattle.fin_style_step.specs.declared.nest.Kind.TheVariants as kind
 use Rattle.fin_style_step.specs.Steps.{first_sequence}
 use Rattle.fin_style_step.specs.Laws.{Lighter, SequenceSplits}
 use Rattle.fin_style_step.specs.Parts.{all_looplets, course_of, is_sequence, here_one, others_one, by_first, here_part, others_part, masks_wait, inside_all, stepper_part, jumper_part, parts_of}
-use Rattle.fin_style_step.specs.Splits.{AllLighter, SeparateOver, StaySeparate, numbers, OfNest, AreOfNest}
+use Rattle.fin_style_step.specs.Splits.{AllLighter, SeparateOver, StaySeparate, OfNest, AreOfNest}
 use Rattle.fin_style_step.proofs.Halves.{Found, found}
 use Rattle.fin_style_step.proofs.Sequences.{sequence_splits}
 use Rattle.fin_style_step.proofs.Walkers.{stepper_splits, jumper_splits}

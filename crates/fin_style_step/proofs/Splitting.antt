@@ -14,14 +14,15 @@ use Rattle.fin_nest.specs.Laws.{Lawful}
 use Rattle.fin_nest.specs.Frames.{fill}
 use Rattle.fin_nest.specs.Courses.{Behind, nest_with, Meant, MeantAll}
 use Rattle.fin_nest.specs.Styles as style
-use Rattle.fin_style_step.specs.declared.nest.Numbered.{Numbered}
+use Rattle.fin_nest.specs.declared.entries.Numbered.{Numbered}
+use Rattle.fin_nest.specs.Entries.{looplets}
 use Rattle.fin_style_step.specs.declared.nest.Nest as plain
 use Rattle.fin_style_step.specs.declared.nest.Parts.{Parts}
 use Rattle.fin_style_step.specs.declared.nest.Kind.{Kind}
 use Rattle.fin_style_step.specs.declared.nest.Kind.TheVariants as kind
 use Rattle.fin_style_step.specs.Steps.{Division, first_sequence, here_nest, others_nest, divided_code, stepper, jumper, listed, walkers, insides, least, greatest, stepper_nest, steps_code, jumper_nest, jumps_code}
 use Rattle.fin_style_step.specs.Laws.{Lighter, SequenceSplits}
-use Rattle.fin_style_step.specs.Parts.{looplets, all_looplets, nest_has, course_of, one_part, here_part, others_part, nest_stop, sequence_frame, sequence_parts, kind_of, inside_one, inside_all, nest_walkers, stepper_part, stepper_frame, jumper_part, jumper_frame, parts_of}
+use Rattle.fin_style_step.specs.Parts.{all_looplets, nest_has, course_of, one_part, here_part, others_part, nest_stop, sequence_frame, sequence_parts, kind_of, inside_one, inside_all, nest_walkers, stepper_part, stepper_frame, jumper_part, jumper_frame, parts_of}
 use Rattle.fin_style_step.specs.Splits.{Asked, SplitsIn}
 use Rattle.fin_style_step.proofs.Filled.{fill_divided, fill_steps, fill_jumps}
 use Rattle.fin_style_step.proofs.Halves.{Found, found, nest_stop_is, here_is, others_are}

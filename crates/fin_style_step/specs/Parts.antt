@@ -8,17 +8,15 @@ use Rattle.fin_looplet.specs.declared.looplet.Phase.{Phase}
 use Rattle.fin_looplet.specs.declared.looplet.Walker.{Walker}
 use Rattle.fin_looplet.specs.declared.looplet.Looplet.{Looplet}
 use Rattle.fin_looplet.specs.Cut.{plus, cut}
+use Rattle.fin_nest.specs.declared.entries.Numbered.{Numbered}
+use Rattle.fin_nest.specs.Entries.{looplets, with_looplet}
 use Rattle.fin_nest.specs.Courses.{Course}
 use Rattle.fin_nest.specs.Styles as style
-use Rattle.fin_style_step.specs.declared.nest.Numbered.{Numbered}
 use Rattle.fin_style_step.specs.declared.nest.Nest.{Nest}
 use Rattle.fin_style_step.specs.declared.nest.Parts.{Parts}
 use Rattle.fin_style_step.specs.declared.nest.Kind.{Kind}
 use Rattle.fin_style_step.specs.declared.nest.Kind.TheVariants as kind
 use Rattle.fin_style_step.specs.Steps.{Phased, nothing_there, sequence_of, phased, divided_code, stepper, jumper, walkers, inside, steps_code, jumps_code}
-
-abbrev pub looplets : List Numbered → List Looplet
-looplets = map (λ e. e.looplet)
 
 -- the looplets of the reads, and then those of the masks
 abbrev pub all_looplets : Nest → List Looplet
@@ -30,10 +28,6 @@ nest_has s n = style.has s (looplets n.reads) || style.has s (looplets n.masks)
 
 abbrev pub course_of : Nest → Course
 course_of n = record { var = n.var; lo = n.lo; hi = n.hi; next = n.next; reads = all_looplets n }
-
--- an entry with another looplet
-abbrev pub with_looplet : (Looplet → Looplet) → Numbered → Numbered
-with_looplet f e = record { number = e.number; looplet = f e.looplet }
 
 abbrev pub one_part : Code → Nest → Parts
 one_part frame part = record { frame = frame; nests = part ∷ [] }

@@ -1,5 +1,5 @@
 -- What the parts of a nest of the program keep.
-use Rattle.std.specs.Prelude.{◌≡◌, ◌⊎◌, ℕ, ◌+◌, ◌<◌, ◌≤◌, List, map, false}
+use Rattle.std.specs.Prelude.{◌≡◌, ◌⊎◌, ◌+◌, ◌<◌, ◌≤◌, map, false}
 use Rattle.std.specs.List.{All}
 use Rattle.fin_ir.specs.declared.layout.Layout.{Layout}
 use Rattle.fin_stage.specs.Staged.{Run}
@@ -7,9 +7,9 @@ use Rattle.fin_nest.specs.Related.{Start}
 use Rattle.fin_nest.specs.Nests.{Sense, Separate}
 use Rattle.fin_nest.specs.Laws.{Onward}
 use Rattle.fin_nest.specs.Senses.{runs, Tallied, turns}
+use Rattle.fin_nest.specs.Entries.{numbers}
 use Rattle.fin_nest.specs.Courses.{Behind, nest_with, course_weight, Fills}
 use Rattle.fin_nest.specs.Styles as style
-use Rattle.fin_style_step.specs.declared.nest.Numbered.{Numbered}
 use Rattle.fin_style_step.specs.declared.nest.Nest.{Nest}
 use Rattle.fin_style_step.specs.declared.nest.Parts.{Parts}
 use Rattle.fin_style_step.specs.Steps.{stepper, jumper}
@@ -46,9 +46,6 @@ SeparateOver S p n = (b : Behind S) → Separate (nest_with b (course_of n))
 
 abbrev pub StaySeparate : Parts → Nest → Type 0
 StaySeparate p n = SeparateOver Run p n × SeparateOver Tallied p n
-
-abbrev pub numbers : List Numbered → List ℕ
-numbers = map (λ e. e.number)
 
 -- a part has the nest's body, variable, reads and masks, and its free locals, but for at most three
 pub record OfNest (n q : Nest) : Type 0 where

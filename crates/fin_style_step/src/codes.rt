@@ -1,13 +1,14 @@
 //! The code between the parts.
 ghost use Rattle.std.specs.Prelude.{◌≡◌, ◌+◌, ◌++◌, ◌∷◌, [], IfOk, pos};
 ghost use Rattle.fin_ir.specs.declared.code.Code.TheVariants.{Skip, Seq, Assign, StepLoop};
-ghost use Rattle.fin_ir.specs.declared.expression.IExpr.TheVariants.{Num, Local, Two};
+ghost use Rattle.fin_ir.specs.declared.expression.IExpr.TheVariants.{Num, Local};
 ghost use Rattle.fin_style_step.specs.Steps.{divide_at, divided_code, place, least, greatest, jump, steps_code, jumps_code};
 
 use fin_base::Op;
 use fin_ir::{Code, IExpr};
 use fin_looplet::{Walker, before};
-use sqlite_items::{Boxed, Items};
+use fin_nest::two;
+use sqlite_items::Items;
 use std::alloc::{AllocError, Global};
 
 /// The number in the region that is nearest to the stop.
@@ -95,12 +96,4 @@ pub(crate) fn greatest(alloc: Global, walkers: &[Walker], from: IExpr) -> Result
         joint = two(alloc, Op::Max, stop, joint)?;
     }
     Ok(joint)
-}
-
-fn two(alloc: Global, op: Op, left: IExpr, right: IExpr) -> Result<IExpr, AllocError>
-    ensures { IfOk result (λ e. e ≡ Two op left right) }
-{
-    let left = Boxed::new(alloc, left)?;
-    let right = Boxed::new(alloc, right)?;
-    Ok(IExpr::Two { op, left, right })
 }

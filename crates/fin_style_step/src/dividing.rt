@@ -1,13 +1,14 @@
 //! The looplets up to the stop of the first sequence, and behind it.
 ghost use Rattle.std.specs.Prelude.{◌≡◌, IfOk};
+ghost use Rattle.fin_nest.specs.Entries.{looplets};
 ghost use Rattle.fin_style_step.specs.Steps.{nothing_there, sequence_of, phased};
-ghost use Rattle.fin_style_step.specs.Parts.{looplets, phased_by, before_stop, behind_stop, here_one, others_one};
+ghost use Rattle.fin_style_step.specs.Parts.{phased_by, before_stop, behind_stop, here_one, others_one};
 ghost use Rattle.fin_style_step.specs.Parts.{here_all, others_all, stop_of, first_stop};
 
 use crate::heads::is_sequence;
-use crate::nest::Numbered;
 use fin_ir::IExpr;
 use fin_looplet::{Leaf, Looplet, Phase};
+use fin_nest::Numbered;
 use sqlite_items::Items;
 use std::alloc::{AllocError, Global};
 

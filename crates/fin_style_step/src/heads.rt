@@ -1,10 +1,11 @@
 //! What looplets are at their head.
 ghost use Rattle.std.specs.Prelude.{◌≡◌};
 ghost use Rattle.fin_nest.specs.Styles.{has, sequence, jumper, head, same_style};
-ghost use Rattle.fin_style_step.specs.Parts.{looplets, is_sequence};
+ghost use Rattle.fin_nest.specs.Entries.{looplets};
+ghost use Rattle.fin_style_step.specs.Parts.{is_sequence};
 
-use crate::nest::Numbered;
 use fin_looplet::Looplet;
+use fin_nest::Numbered;
 
 pub(crate) fn is_sequence(looplet: &Looplet) -> bool
     ensures { result ≡ is_sequence looplet.now }

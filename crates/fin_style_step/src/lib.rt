@@ -21,4 +21,4 @@ mod nest;
 mod walking;
 
 pub use laws::{jumpers_split, parts_split, sequences_split, steppers_split};
-pub use nest::{Frame, Kind, Nest, Numbered, Parts};
+pub use nest::{Frame, Kind, Nest, Parts};

@@ -1,12 +1,14 @@
 //! The walkers at the head of looplets, and what looplets are before the walkers' stops.
 ghost use Rattle.std.specs.Prelude.{◌≡◌, ◌++◌, IfOk, [], map};
 ghost use Rattle.fin_looplet.specs.Cut.{cut};
+ghost use Rattle.fin_nest.specs.Entries.{looplets};
 ghost use Rattle.fin_style_step.specs.Steps.{listed, walkers, stepper, jumper};
-ghost use Rattle.fin_style_step.specs.Parts.{looplets, kind_of, inside_one, inside_all};
+ghost use Rattle.fin_style_step.specs.Parts.{kind_of, inside_one, inside_all};
 
-use crate::nest::{Kind, Numbered};
+use crate::nest::Kind;
 use fin_ir::IExpr;
 use fin_looplet::{Looplet, Walker};
+use fin_nest::Numbered;
 use sqlite_items::Items;
 use std::alloc::{AllocError, Global};
 

@@ -1,6 +1,6 @@
 use Rattle.std.proofs.Common.{◌≡◌, drop}
 use Rattle.fin_nest.specs.Styles.{has, jumper}
-use Rattle.fin_style_step.specs.Parts.{looplets}
+use Rattle.fin_nest.specs.Entries.{looplets}
 use Rattle.fin_style_step.proofs.heads.any_jumper.Given as goal
 
 abbrev pub invariant-loop-entry : goal.invariant-loop-entry

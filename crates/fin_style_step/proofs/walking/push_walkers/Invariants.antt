@@ -1,6 +1,7 @@
 use Rattle.std.proofs.Common.{◌≡◌, ◌++◌, drop}
+use Rattle.fin_nest.specs.Entries.{looplets}
 use Rattle.fin_style_step.specs.Steps.{walkers}
-use Rattle.fin_style_step.specs.Parts.{looplets, kind_of}
+use Rattle.fin_style_step.specs.Parts.{kind_of}
 use Rattle.fin_style_step.proofs.walking.push_walkers.Given as goal
 
 abbrev pub invariant-loop-entry : goal.invariant-loop-entry
