@@ -9,16 +9,15 @@
 //! means the nest: a loop's part with a turn counted behind it. Where a nest has a looplet of the step's style, or of
 //! runs and lookups weighs something, each part weighs less; and no part depends on what its code changes. What a part's
 //! body does is left to its code. The builders make looplets and codes that equal these functions.
-//!
-//! `Nest` and `Parts` are those of the program. `specs/Parts.antt` says which parts a nest has by the first style that one
-//! of its looplets has, and the frame for their codes: whatever stands behind the nest, codes that mean the parts, in the
-//! frame, mean it (`specs/Splits.antt`).
 #![tactic(auto)]
 
 mod codes;
+mod heads;
 mod laws;
 mod nest;
 mod reads;
+mod sides;
+mod stepping;
 
 pub use codes::{either_code, within_code};
 pub use laws::{
@@ -26,4 +25,4 @@ pub use laws::{
     spikes_split, switches_split,
 };
 pub use nest::{Branch, Frame, Nest, Parts};
-pub use reads::{cut_all, held_all, unshifted_all};
+pub use stepping::step;

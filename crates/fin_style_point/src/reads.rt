@@ -1,37 +1,48 @@
-//! The looplets of the parts.
+//! The looplets of the parts, each under the number of its read or mask.
 ghost use Rattle.std.specs.Prelude.{◌≡◌, IfOk, map};
 ghost use Rattle.fin_looplet.specs.Cut.{cut};
+ghost use Rattle.fin_nest.specs.Entries.{with_looplet};
 ghost use Rattle.fin_style_point.specs.Steps.{unshifted, held};
 
 use fin_ir::IExpr;
 use fin_looplet::Looplet;
+use fin_nest::Numbered;
 use sqlite_items::Items;
 use std::alloc::{AllocError, Global};
 
 /// The looplets of a region, cut at its end: no spike is left at their head.
-pub fn cut_all(
+pub(crate) fn cut_all(
     alloc: Global,
     end: &IExpr,
-    looplets: &[Looplet],
-) -> Result<Items<Looplet>, AllocError>
-    ensures { IfOk result (λ all. all ≡ map (cut end.now) looplets.now) }
+    entries: &[Numbered],
+) -> Result<Items<Numbered>, AllocError>
+    ensures { IfOk result (λ all. all ≡ map (with_looplet (cut end.now)) entries.now) }
 {
     let mut all = Items::new(alloc);
-    for looplet in looplets {
-        let part = looplet.cut(alloc, end)?;
-        all.push(part)?;
+    for entry in entries {
+        let looplet = entry.looplet.cut(alloc, end)?;
+        all.push(Numbered {
+            number: entry.number,
+            looplet,
+        })?;
     }
     Ok(all)
 }
 
 /// The looplets with each shift at their head pushed inside.
-pub fn unshifted_all(alloc: Global, looplets: &[Looplet]) -> Result<Items<Looplet>, AllocError>
-    ensures { IfOk result (λ all. all ≡ map unshifted looplets.now) }
+pub(crate) fn unshifted_all(
+    alloc: Global,
+    entries: &[Numbered],
+) -> Result<Items<Numbered>, AllocError>
+    ensures { IfOk result (λ all. all ≡ map (with_looplet unshifted) entries.now) }
 {
     let mut all = Items::new(alloc);
-    for looplet in looplets {
-        let part = unshifted(alloc, looplet)?;
-        all.push(part)?;
+    for entry in entries {
+        let looplet = unshifted(alloc, &entry.looplet)?;
+        all.push(Numbered {
+            number: entry.number,
+            looplet,
+        })?;
     }
     Ok(all)
 }
@@ -46,13 +57,16 @@ fn unshifted(alloc: Global, looplet: &Looplet) -> Result<Looplet, AllocError>
 }
 
 /// The looplets at one coordinate, which stands in the locals of their lookups.
-pub fn held_all(alloc: Global, looplets: &[Looplet]) -> Result<Items<Looplet>, AllocError>
-    ensures { IfOk result (λ all. all ≡ map held looplets.now) }
+pub(crate) fn held_all(alloc: Global, entries: &[Numbered]) -> Result<Items<Numbered>, AllocError>
+    ensures { IfOk result (λ all. all ≡ map (with_looplet held) entries.now) }
 {
     let mut all = Items::new(alloc);
-    for looplet in looplets {
-        let part = held(alloc, looplet)?;
-        all.push(part)?;
+    for entry in entries {
+        let looplet = held(alloc, &entry.looplet)?;
+        all.push(Numbered {
+            number: entry.number,
+            looplet,
+        })?;
     }
     Ok(all)
 }

@@ -1,0 +1,7 @@
+use Rattle.std.proofs.Common.{◌≡◌, drop}
+use Rattle.fin_nest.specs.Styles.{has, spike}
+use Rattle.fin_nest.specs.Entries.{looplets}
+use Rattle.fin_style_point.proofs.heads.any_spike.Given as goal
+
+abbrev pub invariant-loop-entry : goal.invariant-loop-entry
+invariant-loop-entry l = has spike (looplets (drop l.entry-index l.entries)) ≡ has spike (looplets l.entries)
