@@ -13,6 +13,7 @@
 
 mod codes;
 mod heads;
+mod joining;
 mod laws;
 mod nest;
 mod reads;
@@ -20,6 +21,7 @@ mod sides;
 mod stepping;
 
 pub use codes::{either_code, within_code};
+pub use joining::join;
 pub use laws::{
     fixed_is_at_once, loops_split, nothing_is_skipped, parts_are_stepped, shifts_split,
     spikes_split, switches_split,
