@@ -15,3 +15,10 @@ pub mod Chosen
 pub mod Flatness
 pub mod Splitting
 pub mod Kept
+pub mod Repeating
+pub mod Putting
+pub mod Outcomes
+pub mod Updating
+pub mod Folding
+pub mod Regions
+pub mod Updates

@@ -2,3 +2,4 @@ pub mod Steps
 pub mod Laws
 pub mod Parts
 pub mod Splits
+pub mod Changes

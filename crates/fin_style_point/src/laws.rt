@@ -2,6 +2,7 @@
 ghost use Rattle.fin_style_point.specs.Laws.{SpikesSplit, ShiftsSplit, SwitchesSplit};
 ghost use Rattle.fin_style_point.specs.Laws.{LoopsSplit, FixedIsAtOnce, NothingIsSkipped};
 ghost use Rattle.fin_style_point.specs.Splits.{PartsAreStepped};
+ghost use Rattle.fin_style_point.specs.Changes.{UpdatesAreAtOnce};
 
 /// A nest's spikes may be cut at its region's end: that is two runs each, and weighs less.
 pub fn spikes_split()
@@ -39,4 +40,9 @@ pub fn nothing_is_skipped()
 /// nothing that their code changes where the nest doesn't, and have its body.
 pub fn parts_are_stepped()
     ensures { PartsAreStepped }
+{}
+
+/// Over runs and lookups the code of one update at once means each nest whose body is that update at each coordinate.
+pub fn updates_are_at_once()
+    ensures { UpdatesAreAtOnce }
 {}
