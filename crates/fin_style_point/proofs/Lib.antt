@@ -22,3 +22,4 @@ pub mod Updating
 pub mod Folding
 pub mod Regions
 pub mod Updates
+pub mod Statements

@@ -71,7 +71,8 @@ module _ (w : Setting) (t : ℕ) (r q : Run) (beside : Beside w t r q) where
       let frozen : (j : ℕ) → frozen_in (stage_at (slice_set q.stages t (Built c)) j) ≡ frozen_in (stage_at q.stages j) =
       (λ j. ⊎_elim
       (λ (s : j ≡ t).
-      ap (λ k. frozen_in (stage_at (slice_set q.stages t (Built c)) k)) s ∙ ap frozen_in (get_or-set_same q.stages t (Built c) Absent lt) ∙ sym (ap frozen_in e) ∙ ap (λ k. frozen_in (stage_at q.stages k)) (sym s))
+      ap (λ k. frozen_in (stage_at (slice_set q.stages t (Built c)) k)) s ∙ ap frozen_in (get_or-set_same q.stages t (Built c) Absent lt)
+      ∙ sym (ap frozen_in e) ∙ ap (λ k. frozen_in (stage_at q.stages k)) (sym s))
       (λ n. ap frozen_in (other j n)) (cases_eq j t)) in
       let same : tensors_of w (with_stage t (Built c) q) ≡ tensors_of w q = (λ i j. option_or (made_at w.given j) (frozen j i)) in
       record { tensors = same ∙ beside.tensors; others = λ j n. other j n ∙ beside.others j n }

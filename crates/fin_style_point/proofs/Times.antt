@@ -27,11 +27,13 @@ module _ {S : Type 0} (pay : S → S) (ts : Store) (ls : List ℤ) (n : Nest S) 
       let here : at_act pay ts ls n f at s ≡ step s =
       ap (λ z. n.body (seens (views_of ts ls n at)) z at (paid_if pay f.stopped s)) b
       ∙ ap (λ z. n.body (seens (views_of ts ls n at)) false at (paid_if pay z s)) p ∙ fixed.more at s in
-      later k (at_flags ts ls n at) (at +ℤ pos 1) (at_act pay ts ls n f at s) (flat_ends ts ls (value ts ls n.hi) at n.reads flat) (none_counted ts ls (value ts ls n.hi) at n.counts n.reads flat) ∙ ap (repeats k step) here
+      later k (at_flags ts ls n at) (at +ℤ pos 1) (at_act pay ts ls n f at s) (flat_ends ts ls (value ts ls n.hi) at n.reads flat)
+      (none_counted ts ls (value ts ls n.hi) at n.counts n.reads flat) ∙ ap (repeats k step) here
 
   fixed_fold : (k : ℕ) (at : ℤ) (s : S) → over (at_act pay ts ls n) (at_flags ts ls n) (suc k) fresh at s ≡ repeats (suc k) step (work s)
   fixed_fold k at s =
-      later k (at_flags ts ls n at) (at +ℤ pos 1) (at_act pay ts ls n fresh at s) (flat_ends ts ls (value ts ls n.hi) at n.reads flat) (none_counted ts ls (value ts ls n.hi) at n.counts n.reads flat) ∙ ap (repeats k step) (fixed.first at s)
+      later k (at_flags ts ls n at) (at +ℤ pos 1) (at_act pay ts ls n fresh at s) (flat_ends ts ls (value ts ls n.hi) at n.reads flat)
+      (none_counted ts ls (value ts ls n.hi) at n.counts n.reads flat) ∙ ap (repeats k step) (fixed.first at s)
 
 -- ---- code that is run where there is a coordinate
 

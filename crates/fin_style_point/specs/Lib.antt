@@ -3,3 +3,4 @@ pub mod Laws
 pub mod Parts
 pub mod Splits
 pub mod Changes
+pub mod Statements

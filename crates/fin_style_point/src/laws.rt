@@ -3,6 +3,7 @@ ghost use Rattle.fin_style_point.specs.Laws.{SpikesSplit, ShiftsSplit, SwitchesS
 ghost use Rattle.fin_style_point.specs.Laws.{LoopsSplit, FixedIsAtOnce, NothingIsSkipped};
 ghost use Rattle.fin_style_point.specs.Splits.{PartsAreStepped};
 ghost use Rattle.fin_style_point.specs.Changes.{UpdatesAreAtOnce};
+ghost use Rattle.fin_style_point.specs.Statements.{StatementsAreUpdates};
 
 /// A nest's spikes may be cut at its region's end: that is two runs each, and weighs less.
 pub fn spikes_split()
@@ -45,4 +46,9 @@ pub fn parts_are_stepped()
 /// Over runs and lookups the code of one update at once means each nest whose body is that update at each coordinate.
 pub fn updates_are_at_once()
     ensures { UpdatesAreAtOnce }
+{}
+
+/// A body that is an update statement of a program is that update at each coordinate.
+pub fn statements_are_updates()
+    ensures { StatementsAreUpdates }
 {}

@@ -32,7 +32,7 @@ pub use codes::{either_code, within_code};
 pub use joining::join;
 pub use laws::{
     fixed_is_at_once, loops_split, nothing_is_skipped, parts_are_stepped, shifts_split,
-    spikes_split, switches_split, updates_are_at_once,
+    spikes_split, statements_are_updates, switches_split, updates_are_at_once,
 };
 pub use nest::{Branch, Frame, Nest, Parts};
 pub use stepping::step;
