@@ -15,10 +15,13 @@
 
 mod codes;
 mod dividing;
+mod frames;
 mod heads;
 mod laws;
 mod nest;
+mod stepping;
 mod walking;
 
 pub use laws::{jumpers_split, parts_split, sequences_split, steppers_split};
 pub use nest::{Frame, Kind, Nest, Parts};
+pub use stepping::step;
