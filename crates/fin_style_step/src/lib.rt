@@ -17,11 +17,13 @@ mod codes;
 mod dividing;
 mod frames;
 mod heads;
+mod joining;
 mod laws;
 mod nest;
 mod stepping;
 mod walking;
 
+pub use joining::join;
 pub use laws::{jumpers_split, parts_split, sequences_split, steppers_split};
 pub use nest::{Frame, Kind, Nest, Parts};
 pub use stepping::step;
