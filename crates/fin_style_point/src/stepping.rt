@@ -32,6 +32,7 @@ pub fn step(alloc: Global, nest: Nest) -> Result<Parts, AllocError>
     ensures lighter { IfOk result (λ p. Lighter p nest) }
     ensures separate { IfOk result (λ p. StaySeparate p nest) }
     ensures body { IfOk result (λ p. AreOfNest p nest) }
+    ensures made { IfOk result (λ p. p ≡ parts_of nest) }
 {
     parts_of(alloc, &nest)
 }
