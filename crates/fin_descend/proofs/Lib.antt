@@ -1,0 +1,5 @@
+pub mod Heads
+pub mod Steps
+pub mod Descents
+pub mod Jumpless
+pub mod Loops

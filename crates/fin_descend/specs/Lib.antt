@@ -1,0 +1,4 @@
+pub mod Parts
+pub mod Promises
+pub mod Heads
+pub mod Jumpless
