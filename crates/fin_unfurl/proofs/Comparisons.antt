@@ -5,7 +5,7 @@ use Rattle.std.specs.Ordering.{int_eq}
 use Rattle.std.specs.Int.{int_min, int_max}
 use Rattle.std.proofs.lemmas.Bool.{cases_lt}
 use Rattle.std.proofs.lemmas.Int.{int_wrap_fits, int_min_is, int_max_is}
-use borrow.Author.Differences.{up, down, same_in, sum_is_lem, lt_out, le_out, below_in, at_most_in, true_is_lt, false_is_lt, true_is_le, false_is_le, le-true, fits_in}
+use borrow.Author.Differences.{up, down, same_in, sum_is_lem, lt_out, below_in, true_is_lt, false_is_lt, true_is_le, false_is_le, le-true, fits_in}
 use Rattle.fin_base.specs.declared.terms.Op.{Op}
 use Rattle.fin_base.specs.declared.terms.Op.TheVariants as op
 use Rattle.fin_base.specs.Words.{operate, truth}
@@ -18,7 +18,7 @@ use Rattle.fin_looplet.specs.Sound.{Places, anywhere, SoundWithin}
 use Rattle.fin_looplet.proofs.Bridges.{view_phase, sound_phase}
 use Rattle.fin_unfurl.specs.Parts.{next}
 use Rattle.fin_unfurl.specs.Masks.{is_comparison, holds_before, holds_at, holds_behind, bounded, known, mask_of, Compares, BreaksAtBound, IsSoundMask, NeverStops}
-use Rattle.fin_unfurl.proofs.Small.{lt_yes, natural, sub_is}
+use Rattle.fin_unfurl.proofs.Small.{lt_yes, sub_is}
 use Rattle.fin_unfurl.proofs.Places.{two_is}
 
 -- ---- a comparison by where the coordinate lies
@@ -193,26 +193,28 @@ module _ (o : Op) (b : IExpr) (compares : IsTrue (is_comparison o)) where
       let s = mask_shows o b compares ts ls (x - 1) (pos hi) (omega arith) in
       absurd (subst T (sym h.stops ∙ is ∙ s.stop) tt)
 
-  pub mask_sound : IsSoundMask (mask_of o b)
-  mask_sound ts ls lo hi le i low high =
-      let n = natural i (at_most_in (pos 0) i (omega (arith, le_out (pos lo) i low))) in
+  -- it has no shift, so that any reach will do
+  pub mask_sound_at : (reach served : Places) (ts : Store) (ls : List ℤ) (i : ℤ) → i <ℤ pos (2 ^ 40) → SoundWithin reach ts ls (mask_of o b) served i
+  mask_sound_at reach served ts ls i high =
       let first = known (holds_before o) (bounded b) in
       let second = known (holds_at o) (next (bounded b)) in
       let third = known (holds_behind o) (Num (pos (2 ^ 40))) in
-      let served : Places = λ j. j <ℤ pos hi in
       let y = value ts ls (bounded b) in
       let y' = value ts ls (next (bounded b)) in
       let last : int_lt i (value ts ls (Num (pos (2 ^ 40)))) ≡ true = ap (int_lt i) (value_num ts ls (pos (2 ^ 40)))
-      ∙ sym (true_is_lt i (pos (2 ^ 40)) (omega (arith, le, lt_out i (pos hi) high))) in
-      sound_phase anywhere ts ls first (second ∷ third ∷ []) served i
-      (elim (int_lt i y) as (λ x. ((x ≡ true) × Unit {0}) ⊎ ((x ≡ false) × SoundWithin anywhere ts ls (Sequence (second ∷ third ∷ [])) served i)) [
+      ∙ sym (true_is_lt i (pos (2 ^ 40)) (lt_out i (pos (2 ^ 40)) high)) in
+      sound_phase reach ts ls first (second ∷ third ∷ []) served i
+      (elim (int_lt i y) as (λ x. ((x ≡ true) × Unit {0}) ⊎ ((x ≡ false) × SoundWithin reach ts ls (Sequence (second ∷ third ∷ [])) served i)) [
         | true ↦ inl (refl, tt)
         | false ↦ inr (
           refl,
-          sound_phase anywhere ts ls second (third ∷ []) served i
-              (elim (int_lt i y') as (λ x. ((x ≡ true) × Unit {0}) ⊎ ((x ≡ false) × SoundWithin anywhere ts ls (Sequence (third ∷ [])) served i)) [
+          sound_phase reach ts ls second (third ∷ []) served i
+              (elim (int_lt i y') as (λ x. ((x ≡ true) × Unit {0}) ⊎ ((x ≡ false) × SoundWithin reach ts ls (Sequence (third ∷ [])) served i)) [
                 | true ↦ inl (refl, tt)
-                | false ↦ inr (refl, sound_phase anywhere ts ls third [] served i (inl (last, tt)))
+                | false ↦ inr (refl, sound_phase reach ts ls third [] served i (inl (last, tt)))
               ]),
         )
       ])
+
+  pub mask_sound : IsSoundMask (mask_of o b)
+  mask_sound ts ls lo hi le i low high = mask_sound_at anywhere (λ j. j <ℤ pos hi) ts ls i (below_in i (pos (2 ^ 40)) (omega (arith, le, lt_out i (pos hi) high)))

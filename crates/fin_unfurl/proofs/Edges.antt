@@ -19,7 +19,7 @@ use Rattle.fin_unfurl.specs.Shifts.{near, outside, boxed, edged, is_inside, Move
 use Rattle.fin_unfurl.proofs.Small.{lt_yes, natural, sub_is}
 use Rattle.fin_unfurl.proofs.Places.{two_is}
 
-sub_of : (a b : ℤ) → up (a -ℤ b) + down a + up b ≡ down (a -ℤ b) + up a + down b
+pub sub_of : (a b : ℤ) → up (a -ℤ b) + down a + up b ≡ down (a -ℤ b) + up a + down b
 sub_of a b = omega (arith, sum_is_lem a (neg_ℤ b), neg_is b)
 
 -- ---- without an edge
@@ -70,7 +70,7 @@ module _ (child : Looplet) (by : IExpr) where
 -- ---- with an edge
 
 module _ (child : Looplet) (by : IExpr) (n : ℕ) (fill : ℤ) (small : n ≤ 2 ^ 40) (ts : Store) (ls : List ℤ) where
-  abbrev z : ℤ
+  abbrev pub z : ℤ
   z = value ts ls by
 
   abbrev c : ℤ
@@ -84,7 +84,7 @@ module _ (child : Looplet) (by : IExpr) (n : ℕ) (fill : ℤ) (small : n ≤ 2 
       (value_num ts ls (pos n))
       ∙ int_wrap_fits w64 (c +ℤ pos n) (fits_in w64 (c +ℤ pos n) (omega (arith, sum_is_lem c (pos n), int_max_is (int_min z (pos (2 ^ 40))) (negsuc (2 ^ 41)), int_min_is z (pos (2 ^ 40)), small)))
 
-  abbrev filled : View
+  abbrev pub filled : View
   filled = plain false (gap fill)
 
   abbrev chosen : ℕ → Bool → Bool → View
@@ -109,29 +109,29 @@ module _ (child : Looplet) (by : IExpr) (n : ℕ) (fill : ℤ) (small : n ≤ 2 
       ∙ ap (λ x. if x then ended (int_le (pos (2 ^ 40)) (pos (i + 1))) false filled else view ts ls (Sequence []) end (pos i)) (lt_yes i (2 ^ 40) lt)))
 
   -- where a coordinate lies
-  abbrev Before : ℕ → Type 0
+  abbrev pub Before : ℕ → Type 0
   Before i = i + down z < up z
 
-  abbrev Inside : ℕ → Type 0
+  abbrev pub Inside : ℕ → Type 0
   Inside i = (up z ≤ i + down z) × (i + down z < up z + n)
 
-  abbrev Behind : ℕ → Type 0
+  abbrev pub Behind : ℕ → Type 0
   Behind i = up z + n ≤ i + down z
 
-  where_is : (i : ℕ) → Before i ⊎ (Inside i ⊎ Behind i)
+  pub where_is : (i : ℕ) → Before i ⊎ (Inside i ⊎ Behind i)
   where_is i =
       ⊎_elim (λ (h : i + down z < up z). inl h)
       (λ (h : up z ≤ i + down z). ⊎_elim (λ (k : i + down z < up z + n). inr (inl (h, k))) (λ (k : up z + n ≤ i + down z). inr (inr k)) (cases_lt (i + down z) (up z + n)))
       (cases_lt (i + down z) (up z))
 
-  view_before : (i : ℕ) (end : ℤ) → i < 2 ^ 40 → Before i → view ts ls (edged child by n fill) end (pos i) ≡ ended (int_le z (pos (i + 1))) false filled
+  pub view_before : (i : ℕ) (end : ℤ) → i < 2 ^ 40 → Before i → view ts ls (edged child by n fill) end (pos i) ≡ ended (int_le z (pos (i + 1))) false filled
   view_before i end lt h = edged_view i end lt ∙ ap (λ x. chosen i x (int_lt (pos i) (c +ℤ pos n))) (sym (true_is_lt (pos i) z (omega (arith, h))))
 
   -- inside, where the box begins is told whole
   c_is : (i : ℕ) → i < 2 ^ 40 → Inside i → c ≡ z
   c_is i lt h = same_in c z (omega (arith, h, small, int_max_is (int_min z (pos (2 ^ 40))) (negsuc (2 ^ 41)), int_min_is z (pos (2 ^ 40))))
 
-  view_inside : (i : ℕ) (end : ℤ) → i < 2 ^ 40 → Inside i → view ts ls (edged child by n fill) end (pos i) ≡ ended (int_le (z +ℤ pos n) (pos (i + 1))) false (view ts ls child (pos n) (pos i -ℤ z))
+  pub view_inside : (i : ℕ) (end : ℤ) → i < 2 ^ 40 → Inside i → view ts ls (edged child by n fill) end (pos i) ≡ ended (int_le (z +ℤ pos n) (pos (i + 1))) false (view ts ls child (pos n) (pos i -ℤ z))
   view_inside i end lt h =
       let same = c_is i lt h in
       let whole : (z +ℤ pos n) -ℤ z ≡ pos n = same_in ((z +ℤ pos n) -ℤ z) (pos n) (omega (arith, sub_of (z +ℤ pos n) z, sum_is_lem z (pos n))) in
@@ -143,7 +143,7 @@ module _ (child : Looplet) (by : IExpr) (n : ℕ) (fill : ℤ) (small : n ≤ 2 
       (sym (true_is_lt (pos i) (z +ℤ pos n) (omega (arith, h, sum_is_lem z (pos n)))))
       ∙ ap (λ (y : ℤ). ended (int_le (z +ℤ pos n) (pos (i + 1))) false (view ts ls child y (pos i -ℤ z))) whole
 
-  view_behind : (i : ℕ) (end : ℤ) → i < 2 ^ 40 → Behind i → view ts ls (edged child by n fill) end (pos i) ≡ ended (int_le (pos (2 ^ 40)) (pos (i + 1))) false filled
+  pub view_behind : (i : ℕ) (end : ℤ) → i < 2 ^ 40 → Behind i → view ts ls (edged child by n fill) end (pos i) ≡ ended (int_le (pos (2 ^ 40)) (pos (i + 1))) false filled
   view_behind i end lt h =
       edged_view i end lt
       ∙ ap (λ x. chosen i x (int_lt (pos i) (c +ℤ pos n))) (sym (false_is_lt (pos i) z (omega (arith, h))))
@@ -311,36 +311,35 @@ module _ (child : Looplet) (by : IExpr) (n : ℕ) (fill : ℤ) (small : n ≤ 2 
 
   -- ---- soundness
 
-  sound_at : (served : Places) → SoundIn ts ls child (pos 0) (pos n) → (m : ℕ) → m < 2 ^ 40 → SoundWithin anywhere ts ls (edged child by n fill) served (pos m)
-  sound_at served h m lt =
+  -- where the child is sound inside, and the shift moves there to numbers in reach
+  abbrev pub InsideSound : Places → Places → ℕ → Type 0
+  InsideSound reach served m = Inside m → reach (pos m -ℤ z) × SoundWithin reach ts ls child (λ j. served (j +ℤ z) × ((j +ℤ z) <ℤ value ts ls (Two op.Add (near by) (Num (pos n))))) (pos m -ℤ z)
+
+  pub edged_sound_at : (reach served : Places) (m : ℕ) → m < 2 ^ 40 → InsideSound reach served m → SoundWithin reach ts ls (edged child by n fill) served (pos m)
+  edged_sound_at reach served m lt h =
       let first = outside fill by in
       let second = boxed child by n in
       let third = outside fill (Num (pos (2 ^ 40))) in
       let sum = sum_is_lem z (pos n) in
       let stop = value ts ls (Two op.Add (near by) (Num (pos n))) in
-      let last : SoundWithin anywhere ts ls (Sequence (third ∷ [])) served (pos m) = sound_phase anywhere ts ls third [] served (pos m)
+      let last : SoundWithin reach ts ls (Sequence (third ∷ [])) served (pos m) = sound_phase reach ts ls third [] served (pos m)
       (inl (ap (int_lt (pos m)) (value_num ts ls (pos (2 ^ 40))) ∙ lt_yes m (2 ^ 40) lt, tt)) in
       ⊎_elim
-      (λ (w : Before m). sound_phase anywhere ts ls first (second ∷ third ∷ []) served (pos m) (inl (sym (true_is_lt (pos m) z (omega (arith, w))), tt)))
+      (λ (w : Before m). sound_phase reach ts ls first (second ∷ third ∷ []) served (pos m) (inl (sym (true_is_lt (pos m) z (omega (arith, w))), tt)))
       (λ r. ⊎_elim
       (λ (w : Inside m).
       let to : stop ≡ z +ℤ pos n = stop_is ∙ ap (λ (y : ℤ). y +ℤ pos n) (c_is m lt w) in
-      sound_phase anywhere ts ls first (second ∷ third ∷ []) served (pos m) (inr (
+      sound_phase reach ts ls first (second ∷ third ∷ []) served (pos m) (inr (
         sym (false_is_lt (pos m) z (omega (arith, w))),
-        sound_phase anywhere ts ls second (third ∷ []) served (pos m) (inl (
+        sound_phase reach ts ls second (third ∷ []) served (pos m) (inl (
           ap (int_lt (pos m)) to ∙ sym (true_is_lt (pos m) (z +ℤ pos n) (omega (arith, w, sum))),
-          sound_shift anywhere ts ls by child (λ j. served j × (j <ℤ stop)) (pos m) (
-            tt,
-            sound_less anywhere anywhere (λ j x. x) ts ls child (λ j. j <ℤ pos n) (λ j. served (j +ℤ z) × ((j +ℤ z) <ℤ stop)) (pos m -ℤ z)
-                (λ j q. below_in j (pos n) (omega (arith, lt_out (j +ℤ z) (z +ℤ pos n) (subst (λ (y : ℤ). (j +ℤ z) <ℤ y) to q.1), sum_is_lem j z, sum)))
-                (h (pos m -ℤ z) (at_most_in (pos 0) (pos m -ℤ z) (omega (arith, w, sub_of (pos m) z))) (below_in (pos m -ℤ z) (pos n) (omega (arith, w, sub_of (pos m) z)))),
-          ),
+          sound_shift reach ts ls by child (λ j. served j × (j <ℤ stop)) (pos m) (h w),
         )),
       )))
       (λ (w : Behind m).
-      sound_phase anywhere ts ls first (second ∷ third ∷ []) served (pos m) (inr (
+      sound_phase reach ts ls first (second ∷ third ∷ []) served (pos m) (inr (
         sym (false_is_lt (pos m) z (omega (arith, w))),
-        sound_phase anywhere ts ls second (third ∷ []) served (pos m) (inr (
+        sound_phase reach ts ls second (third ∷ []) served (pos m) (inr (
           ap (int_lt (pos m)) stop_is
               ∙ sym (false_is_lt (pos m) (c +ℤ pos n) (omega (arith, w, small, sum_is_lem c (pos n), int_max_is (int_min z (pos (2 ^ 40))) (negsuc (2 ^ 41)), int_min_is z (pos (2 ^ 40))))),
           last,
@@ -348,10 +347,22 @@ module _ (child : Looplet) (by : IExpr) (n : ℕ) (fill : ℤ) (small : n ≤ 2 
       )))
       r) (where_is m)
 
+  anywhere_inside : SoundIn ts ls child (pos 0) (pos n) → (served : Places) (m : ℕ) → m < 2 ^ 40 → InsideSound anywhere served m
+  anywhere_inside h served m lt w =
+      let sum = sum_is_lem z (pos n) in
+      let stop = value ts ls (Two op.Add (near by) (Num (pos n))) in
+      let to : stop ≡ z +ℤ pos n = stop_is ∙ ap (λ (y : ℤ). y +ℤ pos n) (c_is m lt w) in (
+        tt,
+        sound_less anywhere anywhere (λ j x. x) ts ls child (λ j. j <ℤ pos n) (λ j. served (j +ℤ z) × ((j +ℤ z) <ℤ stop)) (pos m -ℤ z)
+            (λ j q. below_in j (pos n) (omega (arith, lt_out (j +ℤ z) (z +ℤ pos n) (subst (λ (y : ℤ). (j +ℤ z) <ℤ y) to q.1), sum_is_lem j z, sum)))
+            (h (pos m -ℤ z) (at_most_in (pos 0) (pos m -ℤ z) (omega (arith, w, sub_of (pos m) z))) (below_in (pos m -ℤ z) (pos n) (omega (arith, w, sub_of (pos m) z)))),
+      )
+
   pub edges_sound : SoundIn ts ls child (pos 0) (pos n) → (lo hi : ℕ) → hi ≤ 2 ^ 40 → SoundIn ts ls (edged child by n fill) (pos lo) (pos hi)
   edges_sound h lo hi le i low high =
       let m = natural i (at_most_in (pos 0) i (omega (arith, le_out (pos lo) i low))) in
-      subst (SoundWithin anywhere ts ls (edged child by n fill) (λ j. j <ℤ pos hi)) (sym m.1) (sound_at (λ j. j <ℤ pos hi) h m.0 (omega (arith, le, lt_out i (pos hi) high, ap up m.1, ap down m.1)))
+      subst (SoundWithin anywhere ts ls (edged child by n fill) (λ j. j <ℤ pos hi)) (sym m.1)
+      (let lt : m.0 < 2 ^ 40 = omega (arith, le, lt_out i (pos hi) high, ap up m.1, ap down m.1) in edged_sound_at anywhere (λ j. j <ℤ pos hi) m.0 lt (anywhere_inside h (λ j. j <ℤ pos hi) m.0 lt))
 
 -- ---- with an edge or without one
 

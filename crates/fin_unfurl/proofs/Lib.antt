@@ -14,3 +14,4 @@ pub mod Dependence
 pub mod Means
 pub mod Comparisons
 pub mod Edges
+pub mod Moving

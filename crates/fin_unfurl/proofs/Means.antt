@@ -1,6 +1,7 @@
 -- The unfurled looplet means the fibre.
 use Rattle.std.proofs.Common.{◌≡◌, ℕ, ◌+◌, ◌-◌, ◌<◌, ◌≤◌, List, length, refl, sym, ap, ◌∙◌, subst, Some, None, Bool, true, false, ℤ, pos, ◌+ℤ◌, ◌<ℤ◌, arith}
-use Rattle.std.specs.Prelude.{min, nat_eq, slice_index, slice_index_or, Option, if◌then◌else◌}
+use Rattle.std.specs.Prelude.{min, nat_eq, slice_index, slice_index_or, Option, Result, IfOk, if◌then◌else◌}
+use Rattle.std.proofs.lemmas.Result.{IfOk-weaker}
 use Rattle.std.specs.List.{filter, range_with_len}
 use borrow.Author.Differences.{up, down, lt_out, le_out, below_in, at_most_in}
 use Rattle.fin_tensor.specs.declared.format.Level.{Level}
@@ -21,7 +22,7 @@ use Rattle.fin_looplet.specs.View.{Store, view, View, gap, word, position}
 use Rattle.fin_looplet.specs.Sound.{Places, anywhere, SoundWithin}
 use Rattle.fin_unfurl.specs.declared.fibre.Fibre.{Fibre}
 use Rattle.fin_unfurl.specs.Fibres.{Asked, IsApart, Stand, nowhere, at, IsPlaced, StandsAt, sight_of, sight_at, varies_at, BreaksAt, length_of, ShowsLeaves, ShowsVarying, ShowsBreaks, IsSound, HasFewStops, OwnsTwo, DependsOnPlace}
-use Rattle.fin_unfurl.specs.Walks.{walk_of, fibre_of, guarded, unfurled}
+use Rattle.fin_unfurl.specs.Walks.{walk_of, fibre_of, guarded, unfurl_of}
 use Rattle.fin_unfurl.proofs.Small.{natural, sub_is}
 use Rattle.fin_unfurl.proofs.Places.{Here, sight_below}
 use Rattle.fin_unfurl.proofs.Shows.{ShowsAt, sight_or}
@@ -30,23 +31,20 @@ use Rattle.fin_unfurl.proofs.Guards.{guarded_on, guarded_off, guarded_sound_on, 
 use Rattle.fin_unfurl.proofs.Dependence.{guarded_owns, guarded_free}
 use Rattle.fin_unfurl.proofs.Counts.{filter_at_most, filter_none, span_is}
 
-abbrev ends_of : Asked → Stand → ℕ → Bool
+abbrev pub ends_of : Asked → Stand → ℕ → Bool
 ends_of a nowhere i = false
 ends_of a (at s p) i = ends_after walked (part_at s.parts a.level) p i
 
-abbrev stops_of : Asked → Stand → ℕ → Bool
+abbrev pub stops_of : Asked → Stand → ℕ → Bool
 stops_of a nowhere i = false
 stops_of a (at s p) i = stop_after (part_at s.parts a.level) p i
-
-abbrev pub made_of : Asked → Looplet
-made_of a = unfurled a (slice_index_or a.format.levels a.level level.Dense)
 
 module _ (a : Asked) (within : a.level < length a.format.levels) (apart : IsApart a.cursor a.place) where
   abbrev kind : Level
   kind = slice_index_or a.format.levels a.level level.Dense
 
   abbrev made : Looplet
-  made = made_of a
+  made = unfurl_of a
 
   module _ (ts : Store) (ls : List ℤ) where
     in_parts : (s : Frozen) (p : ℕ) → IsPlaced ts ls a s p → a.level < length s.parts
@@ -74,8 +72,9 @@ module _ (a : Asked) (within : a.level < length a.format.levels) (apart : IsApar
           | false ↦ ap (λ (k : ℕ). position a.tensor k (pos q)) small
         ]
 
-    shows : (stand : Stand) → StandsAt ts ls a stand → (m : ℕ) (end : ℤ) → m < a.extent
+    pub shows : (stand : Stand) → StandsAt ts ls a stand → (m : ℕ) (end : ℤ) → m < a.extent
         → ShowsAt (view ts ls made end (pos m)) (sight_at a stand m) (varies_at a stand m) (ends_of a stand m) (stops_of a stand m) (m + 1 < a.extent)
+    unfolding unfurl_of
     shows nowhere off m end lt =
         subst (λ (v : View). ShowsAt v (gap a.format.fill) false false false (m + 1 < a.extent)) (sym (guarded_off ts ls (fibre_of a) a.there (walk_of kind (fibre_of a) a.place) end (pos m) off))
         (record { sight = refl; varies = refl; ends = λ _. refl; stop = λ x. x })
@@ -86,7 +85,8 @@ module _ (a : Asked) (within : a.level < length a.format.levels) (apart : IsApar
         (sym (guarded_on ts ls (fibre_of a) a.there (walk_of kind (fibre_of a) a.place) end (pos m) h.there))
         (record { sight = w.sight ∙ below_is s h.few (child_in a.extent x p m); varies = w.varies; ends = w.ends; stop = w.stop })
 
-    sound_at : (bound served : Places) (stand : Stand) → StandsAt ts ls a stand → (m : ℕ) → m < a.extent → SoundWithin bound ts ls made served (pos m)
+    pub sound_at : (bound served : Places) (stand : Stand) → StandsAt ts ls a stand → (m : ℕ) → m < a.extent → SoundWithin bound ts ls made served (pos m)
+    unfolding unfurl_of
     sound_at bound served nowhere off m lt = guarded_sound_off ts ls (fibre_of a) a.there (walk_of kind (fibre_of a) a.place) bound served (pos m) off
     sound_at bound served (at s p) h m lt =
         guarded_sound_on ts ls (fibre_of a) a.there (walk_of kind (fibre_of a) a.place) bound served (pos m) h.there
@@ -101,7 +101,7 @@ module _ (a : Asked) (within : a.level < length a.format.levels) (apart : IsApar
     breaks_out (at s p) h i b = (ends_are_breaks walked a.extent (part_at s.parts a.level) p i (stands_at s p h)).1 b
 
     -- of the coordinates of a region at most so many stop
-    few_stops : (stand : Stand) → StandsAt ts ls a stand → (lo m : ℕ) → length (filter (λ k. stops_of a stand (lo + k)) (range_with_len 0 m)) ≤ length_of a stand
+    pub few_stops : (stand : Stand) → StandsAt ts ls a stand → (lo m : ℕ) → length (filter (λ k. stops_of a stand (lo + k)) (range_with_len 0 m)) ≤ length_of a stand
     few_stops nowhere h lo m = omega (arith, filter_none 0 m)
     few_stops (at s p) h lo m = of_part (part_at s.parts a.level) (stands_at s p h)
       where
@@ -166,11 +166,18 @@ module _ (a : Asked) (within : a.level < length a.format.levels) (apart : IsApar
       omega (arith, weaker, few_stops ts ls stand h lo m)
 
 -- the looplet that is made of the fibre and its level is the unfurled one
-pub made_is : (a : Asked) (f : Fibre) (l : Level) → f ≡ fibre_of a → l ≡ slice_index_or a.format.levels a.level level.Dense → guarded f a.there (walk_of l f a.place) ≡ made_of a
+made_is : (a : Asked) (f : Fibre) (l : Level) → f ≡ fibre_of a → l ≡ slice_index_or a.format.levels a.level level.Dense → guarded f a.there (walk_of l f a.place) ≡ unfurl_of a
+unfolding unfurl_of
 made_is a f l e k = ap (λ (x : Fibre). guarded x a.there (walk_of l x a.place)) e ∙ ap (λ (x : Level). guarded (fibre_of a) a.there (walk_of x (fibre_of a) a.place)) k
 
-pub made_owns : (a : Asked) → OwnsTwo a (made_of a)
+pub made_by : {E : Type 0} (a : Asked) (f : Fibre) (l : Level) (made : Result Looplet E) → f ≡ fibre_of a → l ≡ slice_index_or a.format.levels a.level level.Dense
+    → IfOk made (λ x. x ≡ guarded f a.there (walk_of l f a.place)) → IfOk made (λ x. x ≡ unfurl_of a)
+made_by a f l made e k = IfOk-weaker made (λ (x : Looplet). x ≡ guarded f a.there (walk_of l f a.place)) (λ (x : Looplet). x ≡ unfurl_of a) (λ x is. is ∙ made_is a f l e k)
+
+pub made_owns : (a : Asked) → OwnsTwo a (unfurl_of a)
+unfolding unfurl_of
 made_owns a x o = guarded_owns (fibre_of a) a.place x (slice_index_or a.format.levels a.level level.Dense) a.there o
 
-pub made_depends : (a : Asked) → DependsOnPlace a (made_of a)
+pub made_depends : (a : Asked) → DependsOnPlace a (unfurl_of a)
+unfolding unfurl_of
 made_depends a x h = guarded_free (fibre_of a) a.place x (slice_index_or a.format.levels a.level level.Dense) a.there h

@@ -9,8 +9,10 @@ use Rattle.fin_looplet.specs.declared.looplet.Leaf.TheVariants.{Value}
 use Rattle.fin_looplet.specs.declared.looplet.Looplet.{Looplet}
 use Rattle.fin_looplet.specs.declared.looplet.Looplet.TheVariants.{Run, Sequence}
 use Rattle.fin_looplet.specs.declared.looplet.Phase.{Phase}
+use Rattle.fin_looplet.specs.Names.{Names}
 use Rattle.fin_looplet.specs.View.{Store, value, view, word, IsBreak, IsStop}
 use Rattle.fin_looplet.specs.Sound.{SoundIn}
+use Rattle.fin_looplet.specs.Locals.{Free, Owns}
 use Rattle.fin_unfurl.specs.Parts.{next}
 
 abbrev pub is_comparison : Op → Bool
@@ -69,3 +71,10 @@ IsSoundMask l = (ts : Store) (ls : List ℤ) (lo hi : ℕ) → hi ≤ 2 ^ 40 →
 
 abbrev pub NeverStops : Looplet → Type 0
 NeverStops l = (ts : Store) (ls : List ℤ) (lo hi : ℕ) → hi ≤ 2 ^ 40 → (x : ℕ) → IsStop ts ls l (pos lo) (pos hi) (pos x) → ⊥
+
+-- it owns no local, and depends on those of the bound
+abbrev pub OwnsNone : Looplet → Type 0
+OwnsNone l = (x : ℕ) → Owns x l → ⊥
+
+abbrev pub DependsOnBound : IExpr → Looplet → Type 0
+DependsOnBound b l = (x : ℕ) → Free x l → Names x b

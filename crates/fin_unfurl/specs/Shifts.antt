@@ -7,8 +7,10 @@ use Rattle.fin_looplet.specs.declared.looplet.Leaf.TheVariants.{Fill}
 use Rattle.fin_looplet.specs.declared.looplet.Looplet.{Looplet}
 use Rattle.fin_looplet.specs.declared.looplet.Looplet.TheVariants.{Run, Sequence, Shift}
 use Rattle.fin_looplet.specs.declared.looplet.Phase.{Phase}
+use Rattle.fin_looplet.specs.Names.{Names}
 use Rattle.fin_looplet.specs.View.{Store, value, view, gap, IsBreak, IsStop}
 use Rattle.fin_looplet.specs.Sound.{SoundIn}
+use Rattle.fin_looplet.specs.Locals.{Free, Owns}
 
 -- ---- the looplet
 
@@ -93,3 +95,12 @@ ShiftsSound child by (Some e) l = EdgesSound child e.0 l
 abbrev pub shift_of : Looplet → IExpr → Option (ℕ × ℤ) → Looplet
 shift_of child by None = Shift by child
 shift_of child by (Some e) = edged child by e.0 e.1
+
+-- ---- locals
+
+-- it owns what the looplet owns, and depends on the distance besides
+abbrev pub OwnsTheSame : Looplet → Looplet → Type 0
+OwnsTheSame child l = (x : ℕ) → Owns x l → Owns x child
+
+abbrev pub DependsOnDistance : Looplet → IExpr → Looplet → Type 0
+DependsOnDistance child by l = (x : ℕ) → Free x l → Names x by ⊎ Free x child

@@ -1,5 +1,5 @@
 -- The looplets of walked fibres.
-use Rattle.std.specs.Prelude.{ℕ, ◌+◌, min, nat_eq, List, [], ◌∷◌, length, Option, Some, None, pos, Bool, false, not, if◌then◌else◌}
+use Rattle.std.specs.Prelude.{ℕ, ◌+◌, min, nat_eq, List, [], ◌∷◌, length, Option, Some, None, pos, Bool, false, not, if◌then◌else◌, slice_index_or}
 use Rattle.fin_base.specs.declared.terms.Op.TheVariants as op
 use Rattle.fin_tensor.specs.declared.format.Format.{Format}
 use Rattle.fin_tensor.specs.declared.format.Level.{Level}
@@ -113,3 +113,7 @@ fibre_of a = fibre_in a.format a.tensor a.level a.extent a.cursor
 
 abbrev pub unfurled : Asked → Level → Looplet
 unfurled a kind = guarded (fibre_of a) a.there (walk_of kind (fibre_of a) a.place)
+
+-- its level is that of the format; what it means is proved, so that nobody else needs to see into it
+unfoldable pub unfurl_of : Asked → Looplet
+unfurl_of a = unfurled a (slice_index_or a.format.levels a.level Dense)

@@ -1,7 +1,7 @@
 //! The looplet of a comparison.
 ghost use Rattle.std.specs.Prelude.{◌≡◌, IsTrue, IfOk};
 ghost use Rattle.fin_unfurl.specs.Masks as spec;
-ghost use Rattle.fin_unfurl.specs.Masks.{is_comparison, Compares, BreaksAtBound, IsSoundMask, NeverStops};
+ghost use Rattle.fin_unfurl.specs.Masks.{is_comparison, Compares, BreaksAtBound, IsSoundMask, NeverStops, OwnsNone, DependsOnBound};
 
 use crate::parts::{next, two};
 use fin_base::Op;
@@ -21,6 +21,9 @@ pub fn mask(alloc: Global, op: Op, bound: IExpr) -> Result<Looplet, AllocError>
     ensures breaks { IfOk result (BreaksAtBound bound) }
     ensures sound { IfOk result IsSoundMask }
     ensures stops { IfOk result NeverStops }
+    ensures owns { IfOk result OwnsNone }
+    ensures depends { IfOk result (DependsOnBound bound) }
+    ensures made { IfOk result (λ l. l ≡ spec.mask_of op bound) }
 {
     three_runs(alloc, op, &bound)
 }

@@ -1,8 +1,9 @@
 //! The looplet of a shifted index.
 ghost use Rattle.std.specs.Prelude.{◌≡◌, ◌≤◌, ◌^◌, IfOk, IfSome};
+ghost use Rattle.fin_looplet.specs.declared.looplet.Leaf.TheVariants as shown;
 ghost use Rattle.fin_looplet.specs.declared.looplet.Looplet.TheVariants as looplet;
 ghost use Rattle.fin_unfurl.specs.Shifts as spec;
-ghost use Rattle.fin_unfurl.specs.Shifts.{ShiftsLeaves, ShiftsBreaks, ShiftsStops, ShiftsSound};
+ghost use Rattle.fin_unfurl.specs.Shifts.{ShiftsLeaves, ShiftsBreaks, ShiftsStops, ShiftsSound, OwnsTheSame, DependsOnDistance};
 
 use crate::parts::two;
 use fin_base::Op;
@@ -30,6 +31,9 @@ pub fn shift(
     ensures breaks { IfOk result (ShiftsBreaks child by edge) }
     ensures stops { IfOk result (ShiftsStops child by edge) }
     ensures sound { IfOk result (ShiftsSound child by edge) }
+    ensures owns { IfOk result (OwnsTheSame child) }
+    ensures depends { IfOk result (DependsOnDistance child by) }
+    ensures made { IfOk result (λ l. l ≡ spec.shift_of child by edge) }
 {
     shifted(alloc, child, by, edge)
 }
@@ -99,6 +103,12 @@ fn outside(fill: i64, stop: IExpr) -> Phase
 {
     Phase {
         stop,
-        child: Looplet::Run(Leaf::Fill(fill)),
+        child: Looplet::Run(gap(fill)),
     }
+}
+
+fn gap(fill: i64) -> Leaf
+    ensures { result ≡ shown.Fill fill }
+{
+    Leaf::Fill(fill)
 }

@@ -41,6 +41,7 @@ pub fn unfurl(
     ensures stops { IfOk result (HasFewStops (asked format.now tensor level extent pos there cursor)) }
     ensures owns { IfOk result (OwnsTwo (asked format.now tensor level extent pos there cursor)) }
     ensures depends { IfOk result (DependsOnPlace (asked format.now tensor level extent pos there cursor)) }
+    ensures made { IfOk result (λ l. l ≡ spec.unfurl_of (asked format.now tensor level extent pos there cursor)) }
 {
     let fibre = fibre_in(format, tensor, level, extent, cursor);
     unfurled(
