@@ -1,5 +1,12 @@
 pub mod Marks
 pub mod Parts
 pub mod Bodies
+pub mod Offsets
+pub mod Fibres
+pub mod Along
+pub mod Stops
+pub mod Tests
+pub mod Loops
 pub mod Holding
 pub mod Programs
+pub mod Shown

@@ -1,3 +1,6 @@
 pub mod Turns
 pub mod Watches
+pub mod Looplets
+pub mod Standing
+pub mod Loops
 pub mod Bodies

@@ -1,5 +1,7 @@
 //! What is proved of the nest of a loop.
 ghost use Rattle.fin_drive.specs.Watches.{ChunksAreNests, LoopsAreNests, LoopsFallApart};
+ghost use Rattle.fin_drive.specs.Standing.{DistancesMean, ReadsShow, MasksShow};
+ghost use Rattle.fin_drive.specs.Loops.{LoopletsShow};
 ghost use Rattle.fin_drive.specs.Bodies.{BodiesGoOn, BodiesAtPoints, BodiesAreFlagless, BodiesAreNothing, StatementsGoOn, StatementsUpdateOnce};
 
 /// A nest whose looplets show what the definition of work knows of a loop's driven reads and masks folds to what the
@@ -47,4 +49,26 @@ pub fn statements_go_on()
 /// Where a single update is left of the statements of a program they are that update, whose own work is 1.
 pub fn statements_update_once()
     ensures { StatementsUpdateOnce }
+{}
+
+/// The looplet of a driven read shows what the definition of work knows of it, wherever it stands as that has it.
+pub fn reads_show()
+    ensures { ReadsShow }
+{}
+
+/// The code of how far a loop lies behind the level of a driven read has that number, where the local of the index's
+/// other variable has its number.
+pub fn distances_mean()
+    ensures { DistancesMean }
+{}
+
+/// The looplet of a mask shows its test.
+pub fn masks_show()
+    ensures { MasksShow }
+{}
+
+/// The looplets of a loop's driven reads and masks, with runs for the other reads, show along its coordinates what the
+/// definition of work knows, are sound there, and stop no more often than the loop's entry is charged for.
+pub fn looplets_show()
+    ensures { LoopletsShow }
 {}

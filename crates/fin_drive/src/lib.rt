@@ -4,11 +4,17 @@
 //! with that body, whose looplets show what the definition of work (`fin_simp`) knows, folds to the loop's run by pieces,
 //! a nest for each chunk of a parallel loop; and that the body keeps what the steps of nests ask of one, for the
 //! statements of any program. It stands on no style.
+//!
+//! `specs/Looplets.antt` says which looplet a driven read has, and which a mask. The laws say that it shows what the
+//! definition of work knows, wherever the read stands as that has it.
 #![tactic(auto)]
 
 mod laws;
+mod reading;
 
 pub use laws::{
     bodies_are_flagless, bodies_are_nothing, bodies_at_points, bodies_go_on, chunks_are_nests,
-    loops_are_nests, loops_fall_apart, statements_go_on, statements_update_once,
+    distances_mean, looplets_show, loops_are_nests, loops_fall_apart, masks_show, reads_show,
+    statements_go_on, statements_update_once,
 };
+pub use reading::{Reading, Spot};

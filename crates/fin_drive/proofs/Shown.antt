@@ -1,0 +1,17 @@
+-- What the laws say of the looplets of reads and masks.
+use Rattle.fin_drive.specs.Standing.{ReadsShow, MasksShow}
+use Rattle.fin_drive.proofs.Along.{driven_shows, driven_sound, driven_owns, driven_depends}
+use Rattle.fin_drive.proofs.Stops.{driven_stops}
+use Rattle.fin_drive.proofs.Tests.{mask_shown}
+
+pub reads_show : ReadsShow
+reads_show format r s within apart = record {
+  shows = driven_shows format r s within apart;
+  sound = driven_sound format r s within apart;
+  stops = driven_stops format r s within apart;
+  owns = driven_owns format r s;
+  depends = driven_depends format r s;
+}
+
+pub masks_show : MasksShow
+masks_show o bare_first bound compares = mask_shown o bare_first bound compares
