@@ -6,15 +6,19 @@
 //! statements of any program. It stands on no style.
 //!
 //! `specs/Looplets.antt` says which looplet a driven read has, and which a mask. The laws say that it shows what the
-//! definition of work knows, wherever the read stands as that has it.
+//! definition of work knows, wherever the read stands as that has it. `driven` and `tested` make these looplets.
 #![tactic(auto)]
 
 mod laws;
+mod masks;
 mod reading;
+mod reads;
 
 pub use laws::{
     bodies_are_flagless, bodies_are_nothing, bodies_at_points, bodies_go_on, chunks_are_nests,
     distances_mean, looplets_show, loops_are_nests, loops_fall_apart, masks_show, reads_show,
     statements_go_on, statements_update_once,
 };
+pub use masks::tested;
 pub use reading::{Reading, Spot};
+pub use reads::{distance, driven};
