@@ -7,6 +7,7 @@ pub mod Along
 pub mod Stops
 pub mod Tests
 pub mod Loops
+pub mod Made
 pub mod Holding
 pub mod Programs
 pub mod Shown

@@ -2,7 +2,10 @@
 ghost use Rattle.fin_drive.specs.Watches.{ChunksAreNests, LoopsAreNests, LoopsFallApart};
 ghost use Rattle.fin_drive.specs.Standing.{DistancesMean, ReadsShow, MasksShow};
 ghost use Rattle.fin_drive.specs.Loops.{LoopletsShow};
+ghost use Rattle.fin_drive.specs.Entries.{MadeNestsAreLoops};
 ghost use Rattle.fin_drive.specs.Bodies.{BodiesGoOn, BodiesAtPoints, BodiesAreFlagless, BodiesAreNothing, StatementsGoOn, StatementsUpdateOnce};
+
+use fin_simp::masks_compare;
 
 /// A nest whose looplets show what the definition of work knows of a loop's driven reads and masks folds to what the
 /// loop does, over coordinates inside of which no chunk begins.
@@ -72,3 +75,11 @@ pub fn masks_show()
 pub fn looplets_show()
     ensures { LoopletsShow }
 {}
+
+/// A nest with the looplets that are made for a loop of a program, where the loop is entered, folds to the loop's run by
+/// pieces, chunk by chunk; its looplets are sound, and stop no more often than the entry is charged for.
+pub fn made_nests_are_loops()
+    ensures { MadeNestsAreLoops }
+{
+    masks_compare();
+}
