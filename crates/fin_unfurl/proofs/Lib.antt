@@ -15,3 +15,4 @@ pub mod Means
 pub mod Comparisons
 pub mod Edges
 pub mod Moving
+pub mod Separation
