@@ -1,5 +1,5 @@
 -- The looplet of a driven read shows what the definition of work knows of it.
-use Rattle.std.proofs.Common.{◌≡◌, ◌⊎◌, ⊎_elim, inl, inr, ℕ, ◌+◌, ◌<◌, ◌≤◌, ◌^◌, ℤ, pos, negsuc, ◌+ℤ◌, ◌-ℤ◌, ◌<ℤ◌, Bool, true, false, not, ◌&&◌, ◌||◌, List, length, Option, Some, None, refl, sym, ap, ◌∙◌, arith, subst, if◌then◌else◌}
+use Rattle.std.proofs.Common.{◌≡◌, ◌⊎◌, inl, inr, ℕ, ◌+◌, ◌<◌, ◌≤◌, ◌^◌, ℤ, pos, negsuc, ◌+ℤ◌, ◌-ℤ◌, ◌<ℤ◌, Bool, true, false, not, ◌&&◌, ◌||◌, List, length, Option, Some, None, refl, sym, ap, ◌∙◌, arith, subst, if◌then◌else◌}
 use Rattle.std.specs.Prelude.{nat_eq, is_none, slice_set}
 use Rattle.std.specs.Ordering.{int_eq}
 use borrow.Author.Differences.{up, down, same_in, sum_is_lem, at_most_in}
@@ -8,21 +8,16 @@ use Rattle.fin_tensor.specs.Pieces.{walked}
 use Rattle.fin_ast.specs.declared.tree.Index.{Index}
 use Rattle.fin_ast.specs.Value.{Numbers, place}
 use Rattle.fin_ir.specs.declared.expression.IExpr.{IExpr}
-use Rattle.fin_ir.specs.declared.expression.IExpr.TheVariants.{Num}
 use Rattle.fin_looplet.specs.declared.looplet.Looplet.{Looplet}
 use Rattle.fin_looplet.specs.declared.looplet.Looplet.TheVariants.{Shift}
-use Rattle.fin_looplet.specs.Names.{Names}
 use Rattle.fin_looplet.specs.View.{Store, value, view, View}
 use Rattle.fin_looplet.specs.Sound.{Places, SoundWithin, Near as IsNear}
-use Rattle.fin_looplet.specs.Locals.{Free, Owns}
 use Rattle.fin_looplet.proofs.Bridges.{view_shift, sound_shift}
-use Rattle.fin_looplet.proofs.Exprs.{names_num}
 use Rattle.fin_unfurl.specs.Fibres.{Asked, IsApart, nowhere, at}
 use Rattle.fin_unfurl.specs.Shifts.{edged, shift_of}
 use Rattle.fin_unfurl.proofs.Small.{natural}
-use Rattle.fin_unfurl.proofs.Means.{sound_at, made_owns, made_depends}
+use Rattle.fin_unfurl.proofs.Means.{sound_at}
 use Rattle.fin_unfurl.proofs.Edges.{Inside, edged_sound_at, sub_of}
-use Rattle.fin_unfurl.proofs.Moving.{shift_owns, shift_free}
 use Rattle.fin_simp.specs.Sights as known
 use Rattle.fin_simp.specs.Sights.{Stand, Nowhere, At, Unsettled, stand_sight, sight_at}
 use Rattle.fin_simp.specs.Lasting.{IsInside}
@@ -31,7 +26,7 @@ use Rattle.fin_drive.specs.declared.reading.Reading.{Reading}
 use Rattle.fin_drive.specs.declared.reading.Spot.{Spot}
 use Rattle.fin_drive.specs.Looplets.{other, back_offset, fibre_at, placed, driven_looplet}
 use Rattle.fin_drive.specs.Watches.{Faces}
-use Rattle.fin_drive.specs.Standing.{asked_by, StandsFor, OtherIs, IsDriven, StaysIn, ShowsDriven, IsSoundDriven, OwnsTwo, DependsOnSpot}
+use Rattle.fin_drive.specs.Standing.{asked_by, StandsFor, OtherIs, IsDriven, StaysIn, ShowsDriven, IsSoundDriven}
 use Rattle.fin_drive.proofs.Offsets.{other_small, place_is, meets, within_meets, reaches}
 use Rattle.fin_drive.proofs.Fibres.{fibre_by, fibre_faces, edged_faces, inside_is, outside_same}
 
@@ -208,39 +203,3 @@ module _ (format : Format) (r : Reading) (spot : Spot) (within : r.level < lengt
 
   pub driven_sound : IsSoundDriven format r spot (driven_looplet format r spot)
   driven_sound ts ls vars d lo hi h stays c low high = sound_kind ts ls vars d lo hi h stays (λ j. j <ℤ pos hi) (driven_looplet format r spot) (kinds r format.fill fibre spot.by) c low high
-
--- ---- its locals
-
-module _ (a : Asked) (x : ℕ) where
-  fibre_owns : (s : Bool) → Owns x (fibre_by a s (a.cursor + 1)) → (x ≡ a.cursor) ⊎ (x ≡ a.cursor + 1)
-  fibre_owns true o = made_owns a x o
-  fibre_owns false o = inr o
-
-  fibre_free : (s : Bool) → Free x (fibre_by a s (a.cursor + 1)) → Names x a.place ⊎ Names x a.there
-  fibre_free true f = made_depends a x f
-  fibre_free false f = absurd (⊎_elim (λ (h : Names x (Num (pos 0))). names_num x (pos 0) h) (λ (h : Names x (Num (pos 1))). names_num x (pos 1) h) f.1)
-
-module _ (r : Reading) (fill : ℤ) (child : Looplet) (by : IExpr) (x : ℕ) where
-  kind_owns : (l : Looplet) → Kinds r fill child by l → Owns x l → Owns x child
-  kind_owns l (inl q) o = subst (Owns x) q.0 o
-  kind_owns l (inr (inl q)) o = shift_owns child by (Some (r.extent, fill)) x (subst (Owns x) q.0 o)
-  kind_owns l (inr (inr q)) o = shift_owns child by None x (subst (Owns x) q.0 o)
-
-  kind_free : (l : Looplet) → Kinds r fill child by l → Free x l → Names x by ⊎ Free x child
-  kind_free l (inl q) f = inr (subst (Free x) q.0 f)
-  kind_free l (inr (inl q)) f = shift_free child by (Some (r.extent, fill)) x (subst (Free x) q.0 f)
-  kind_free l (inr (inr q)) f = shift_free child by None x (subst (Free x) q.0 f)
-
-module _ (format : Format) (r : Reading) (spot : Spot) where
-  pub driven_owns : OwnsTwo r (driven_looplet format r spot)
-  driven_owns x o =
-      let child = fibre_at format r spot.place spot.there in
-      fibre_owns (asked_by format r spot) x r.settled (kind_owns r format.fill child spot.by x (placed r format.fill child spot.by) (kinds r format.fill child spot.by) o)
-
-  pub driven_depends : DependsOnSpot spot (driven_looplet format r spot)
-  driven_depends x f =
-      let child = fibre_at format r spot.place spot.there in
-      ⊎_elim
-      (λ (h : Names x spot.by). inr h)
-      (λ (h : Free x child). inl (fibre_free (asked_by format r spot) x r.settled h))
-      (kind_free r format.fill child spot.by x (placed r format.fill child spot.by) (kinds r format.fill child spot.by) f)

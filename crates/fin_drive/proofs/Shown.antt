@@ -1,6 +1,7 @@
 -- What the laws say of the looplets of reads and masks.
 use Rattle.fin_drive.specs.Standing.{ReadsShow, MasksShow}
-use Rattle.fin_drive.proofs.Along.{driven_shows, driven_sound, driven_owns, driven_depends}
+use Rattle.fin_drive.proofs.Along.{driven_shows, driven_sound}
+use Rattle.fin_drive.proofs.Apart.{driven_owns, driven_depends, driven_apart, driven_loads}
 use Rattle.fin_drive.proofs.Stops.{driven_stops}
 use Rattle.fin_drive.proofs.Tests.{mask_shown}
 
@@ -11,6 +12,8 @@ reads_show format r s within apart = record {
   stops = driven_stops format r s within apart;
   owns = driven_owns format r s;
   depends = driven_depends format r s;
+  apart = driven_apart format r s;
+  loads = driven_loads format r s;
 }
 
 pub masks_show : MasksShow

@@ -17,6 +17,7 @@ use Rattle.fin_unfurl.proofs.Comparisons.{mask_compares, mask_breaks, mask_stops
 use Rattle.fin_unfurl.proofs.Counts.{filter_at_most, filter_none, span_is}
 use Rattle.fin_unfurl.proofs.Edges.{sub_of}
 use Rattle.fin_unfurl.proofs.Moving.{mask_owns, mask_free}
+use Rattle.fin_unfurl.proofs.Separation.{mask_nested, mask_shifts, mask_loads}
 use Rattle.fin_simp.specs.Work.{Mask}
 use Rattle.fin_drive.specs.Turns.{word_of}
 use Rattle.fin_drive.specs.Looplets.{turned_round, mask_looplet}
@@ -152,4 +153,7 @@ module _ (o : Op) (bare_first : Bool) (bound : IExpr) (compares : IsTrue (is_com
     no_stops = mask_no_stops;
     owns = mask_owns (used o bare_first) bound;
     depends = mask_free (used o bare_first) bound;
+    nested = mask_nested (used o bare_first) bound;
+    shifts = mask_shifts (used o bare_first) bound;
+    loads = mask_loads (used o bare_first) bound;
   }

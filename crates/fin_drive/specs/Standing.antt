@@ -8,10 +8,10 @@ use Rattle.fin_ir.specs.declared.expression.IExpr.{IExpr}
 use Rattle.fin_ir.specs.Frozen.{Frozen}
 use Rattle.fin_ir.specs.Loads.{part_at}
 use Rattle.fin_looplet.specs.declared.looplet.Looplet.{Looplet}
-use Rattle.fin_looplet.specs.Names.{Names}
+use Rattle.fin_looplet.specs.Names.{Names, Loads}
 use Rattle.fin_looplet.specs.View.{Store, value, view, stops}
 use Rattle.fin_looplet.specs.Sound.{SoundWithin, Near}
-use Rattle.fin_looplet.specs.Locals.{Free, Owns}
+use Rattle.fin_looplet.specs.Locals.{Free, LoadsIn, Owns, ShiftNames, Nested}
 use Rattle.fin_tensor.specs.declared.format.Format.{Format}
 use Rattle.fin_unfurl.specs.Fibres.{Asked, asked, IsApart, StandsAt, nowhere, at}
 use Rattle.fin_unfurl.specs.Masks.{is_comparison}
@@ -92,10 +92,19 @@ OwnsTwo r l = (x : ℕ) → Owns x l → (x ≡ r.cursor) ⊎ (x ≡ r.cursor + 
 abbrev pub DependsOnSpot : Spot → Looplet → Type 0
 DependsOnSpot s l = (x : ℕ) → Free x l → (Names x s.place ⊎ Names x s.there) ⊎ Names x s.by
 
+-- no child of a walker in it owns the walker's locals, and its shifts name those of the distance alone
+pub record IsApartInside (s : Spot) (l : Looplet) : Type 0 where
+  pub nested : Nested l
+  pub shifts : (x : ℕ) → ShiftNames x l → Names x s.by
+
+-- it loads from the read's tensor, where that is settled, and else from those of the spot alone
+abbrev pub LoadsFrom : Reading → Spot → Looplet → Type 0
+LoadsFrom r s l = (t : ℕ) → LoadsIn t l → ((r.settled ≡ true) × (t ≡ r.tensor)) ⊎ ((Loads t s.place ⊎ Loads t s.there) ⊎ Loads t s.by)
+
 -- ---- masks
 
--- the test, and where pieces end, but at the last coordinate; it never stops, owns no local and depends on the bound
--- alone
+-- the test, and where pieces end, but at the last coordinate; it never stops, has no shift and owns no local, and depends
+-- on the bound alone
 pub record ShowsMask (o : Op) (bare_first : Bool) (bound : IExpr) (l : Looplet) : Type 0 where
   pub shows : (ts : Store) (ls : List ℤ) (k : Mask) (hi c : ℕ) → k.op ≡ o → k.bare_first ≡ bare_first
       → k.bound ≡ value ts ls bound → hi ≤ 2 ^ 40 → c < hi → Decides (view ts ls l (pos hi) (pos c)) k c (c + 1 < hi)
@@ -103,6 +112,9 @@ pub record ShowsMask (o : Op) (bare_first : Bool) (bound : IExpr) (l : Looplet) 
   pub no_stops : (ts : Store) (ls : List ℤ) (lo hi : ℕ) → hi ≤ 2 ^ 40 → stops ts ls l (pos lo) (pos hi) ≡ 0
   pub owns : (x : ℕ) → Owns x l → ⊥
   pub depends : (x : ℕ) → Free x l → Names x bound
+  pub nested : Nested l
+  pub shifts : (x : ℕ) → ShiftNames x l → ⊥
+  pub loads : (t : ℕ) → LoadsIn t l → Loads t bound
 
 -- ---- the laws
 
@@ -117,6 +129,8 @@ pub record IsForRead (format : Format) (r : Reading) (s : Spot) (l : Looplet) : 
   pub stops : HasFewStops format r s l
   pub owns : OwnsTwo r l
   pub depends : DependsOnSpot s l
+  pub apart : IsApartInside s l
+  pub loads : LoadsFrom r s l
 
 abbrev pub ReadsShow : Type 0
 ReadsShow = (format : Format) (r : Reading) (s : Spot) → r.level < length format.levels → IsApart r.cursor s.place
