@@ -5,6 +5,7 @@ pub mod Offsets
 pub mod Fibres
 pub mod Along
 pub mod Apart
+pub mod Ranges
 pub mod Stops
 pub mod Tests
 pub mod Loops

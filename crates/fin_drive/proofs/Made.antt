@@ -27,6 +27,7 @@ use Rattle.fin_ast.specs.Dense.{shape_at}
 use Rattle.fin_drive.specs.declared.reading.Reading.{Reading}
 use Rattle.fin_drive.specs.Looplets.{driven_looplet}
 use Rattle.fin_drive.specs.Watches.{Watch, Tests, driven_in, masks_in, AllShow, IsPart}
+use Rattle.fin_drive.specs.Stopping.{stop_counts}
 use Rattle.fin_drive.specs.Standing.{StandsFor, asked_by, IsDriven, IsForRead, ShowsMask}
 use Rattle.fin_drive.specs.Loops.{IsFor, AllFor, ShowAlong}
 use Rattle.fin_drive.specs.Entries.{Entry, stretch, watch_of, watch_all, watches, Site, reading_of, IsFound, IsHeld, IsSite, MadeRead, MadeMasks, MadeAll, IsMade, MadeNestsAreLoops}
@@ -276,11 +277,18 @@ module _ (compare : MasksCompare) (e : Entry) (n : Nest Run) (h : IsMade e n) wh
     shows = λ c low high. subst (λ (z : ℤ). AllShow e.loop.vars e.loop.loop.var c (c + 1 < e.from + e.count) ws (views e.store e.locals n.reads z (pos c))) (sym h.hi) (along.shows c low high);
   }
 
+  few_along : sum (map (λ (l : Looplet). stops e.store e.locals l (pos e.from) (pos (e.from + e.count))) n.reads) ≤ stop_counts e.loop.vars e.loop.loop.var e.from e.count e.loop.loop.driven
+  few_along =
+      let long : e.from + e.count - e.from ≡ e.count = omega arith in
+      subst (λ (ds : List Driven). sum (map (λ (l : Looplet). stops e.store e.locals l (pos e.from) (pos (e.from + e.count))) n.reads) ≤ stop_counts e.loop.vars e.loop.loop.var e.from e.count ds) driven
+      (subst (λ (k : ℕ). sum (map (λ (l : Looplet). stops e.store e.locals l (pos e.from) (pos (e.from + e.count))) n.reads) ≤ stop_counts e.loop.vars e.loop.loop.var e.from k (driven_in ws)) long along.few_stops)
+
 pub made_nests_are_loops : MasksCompare → MadeNestsAreLoops
 made_nests_are_loops compare e n h = record {
   chunk = λ one r. chunks_are_nests e.loop (watches e) e.store e.locals n e.from e.count r (is_part compare e n h) one;
   loop = λ none r.
       chunks_are_nests e.loop (watches e) e.store e.locals n e.from e.count r (is_part compare e n h) (λ c low high. ap (λ k. begins_chunk e.loop.loop.len k (c + 1 - e.loop.loop.lo)) none);
   sound = (along compare e n h).sound;
-  few_stops = subst (λ (ds : List Driven). sum (map (λ (l : Looplet). stops e.store e.locals l (pos e.from) (pos (e.from + e.count))) n.reads) ≤ sum (map length_of ds)) (driven compare e n h) (along compare e n h).few_stops;
+  few_stops = few_along compare e n h;
+  paid = λ from m. subst (λ (ds : List Driven). stop_counts e.loop.vars e.loop.loop.var from m ds ≤ sum (map length_of ds)) (driven compare e n h) ((along compare e n h).paid from m);
 }

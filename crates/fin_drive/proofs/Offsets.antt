@@ -169,6 +169,15 @@ module _ (c k n : ℕ) (o : ℤ) (low : c < 2 ^ 40) (few : k < 2 ^ 40) (small : 
       (λ (q : (w <ℤ negsuc 0) × (z <ℤ negsuc 0)). absurd (omega (arith, lt_out z (negsuc 0) q.1, ap up e, ap down e)))
       r) meets
 
+  pub meets_within : (m : ℕ) → w ≡ pos m → m < n → z ≡ pos m
+  meets_within m e lt =
+      ⊎_elim
+      (λ (q : w ≡ z). sym q ∙ e)
+      (λ r. ⊎_elim
+      (λ (q : (pos n ≤ℤ w) × (pos n ≤ℤ z)). absurd (omega (arith, lt, le_out (pos n) w q.0, ap up e, ap down e)))
+      (λ (q : (w <ℤ negsuc 0) × (z <ℤ negsuc 0)). absurd (omega (arith, lt_out w (negsuc 0) q.0, ap up e, ap down e)))
+      r) meets
+
   -- the code moves no further than is near
   pub reaches : (up w ≤ down w + (2 ^ 42 + 2 ^ 41)) × (down w ≤ up w + (2 ^ 42 + 1))
   reaches = (omega (arith, low, few, moves, back_near o), omega (arith, moves, back_near o))

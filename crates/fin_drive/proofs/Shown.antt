@@ -2,7 +2,7 @@
 use Rattle.fin_drive.specs.Standing.{ReadsShow, MasksShow}
 use Rattle.fin_drive.proofs.Along.{driven_shows, driven_sound}
 use Rattle.fin_drive.proofs.Apart.{driven_owns, driven_depends, driven_apart, driven_loads}
-use Rattle.fin_drive.proofs.Stops.{driven_stops}
+use Rattle.fin_drive.proofs.Stops.{driven_stops, driven_paid}
 use Rattle.fin_drive.proofs.Tests.{mask_shown}
 
 pub reads_show : ReadsShow
@@ -10,6 +10,7 @@ reads_show format r s within apart = record {
   shows = driven_shows format r s within apart;
   sound = driven_sound format r s within apart;
   stops = driven_stops format r s within apart;
+  paid = driven_paid format r s within apart;
   owns = driven_owns format r s;
   depends = driven_depends format r s;
   apart = driven_apart format r s;

@@ -28,6 +28,7 @@ use Rattle.fin_drive.specs.declared.reading.Spot.{Spot}
 use Rattle.fin_drive.specs.Turns.{seen_turn}
 use Rattle.fin_drive.specs.Watches.{Watch, Drives, Waits, Tests, watched, IsOneChunk, part_of}
 use Rattle.fin_drive.specs.Looplets.{other, back_offset, driven_looplet, mask_looplet}
+use Rattle.fin_drive.specs.Stopping.{stop_counts}
 use Rattle.fin_drive.specs.Standing.{OtherIs}
 use Rattle.fin_drive.specs.Loops.{Stretch}
 
@@ -158,13 +159,15 @@ pub record IsMade (e : Entry) (n : Nest Run) : Type 0 where
   pub top : e.from + e.count ≤ 2 ^ 40
   pub looplets : MadeAll e e.rest.reads (masks_of e.loop.vars e.loop.loop.var e.rest) n.reads
 
--- Its fold is what the loop does, chunk by chunk; its looplets are sound, and stop no more often than the entry of the loop
--- is charged for.
+-- Its fold is what the loop does, chunk by chunk; its looplets are sound, and stop no more often than there are places
+-- along its coordinates; the entry of the loop is charged for all places.
 pub record DoesLoop (e : Entry) (n : Nest Run) : Type 0 where
   pub chunk : IsOneChunk e.loop.loop e.from e.count → (r : Run) → fold (λ s. s) e.store e.locals n r ≡ part_of e.loop e.from e.count r
   pub loop : e.loop.loop.chunks ≡ 0 → (r : Run) → fold (λ s. s) e.store e.locals n r ≡ part_of e.loop e.from e.count r
   pub sound : AllSoundIn e.store e.locals n.reads (pos e.from) (pos (e.from + e.count))
-  pub few_stops : sum (map (λ (l : Looplet). stops e.store e.locals l (pos e.from) (pos (e.from + e.count))) n.reads) ≤ sum (map length_of e.loop.loop.driven)
+  pub few_stops : sum (map (λ (l : Looplet). stops e.store e.locals l (pos e.from) (pos (e.from + e.count))) n.reads)
+      ≤ stop_counts e.loop.vars e.loop.loop.var e.from e.count e.loop.loop.driven
+  pub paid : (from m : ℕ) → stop_counts e.loop.vars e.loop.loop.var from m e.loop.loop.driven ≤ sum (map length_of e.loop.loop.driven)
 
 abbrev pub MadeNestsAreLoops : Type 0
 MadeNestsAreLoops = (e : Entry) (n : Nest Run) → IsMade e n → DoesLoop e n

@@ -1,5 +1,5 @@
 -- The looplets of a loop's nest, one for each read and each mask, show what the definition of work knows.
-use Rattle.std.specs.Prelude.{◌≡◌, ℕ, ◌+◌, ◌<◌, ◌≤◌, ◌^◌, List, [], ◌∷◌, ℤ, pos, map, sum}
+use Rattle.std.specs.Prelude.{◌≡◌, ℕ, ◌+◌, ◌-◌, ◌<◌, ◌≤◌, ◌^◌, List, [], ◌∷◌, ℤ, pos, map, sum}
 use Rattle.fin_tensor.specs.declared.format.Format.{Format}
 use Rattle.fin_ast.specs.Value.{Numbers}
 use Rattle.fin_ir.specs.declared.expression.IExpr.{IExpr}
@@ -13,6 +13,7 @@ use Rattle.fin_simp.specs.Work.{Driven, Mask, length_of}
 use Rattle.fin_drive.specs.declared.reading.Reading.{Reading}
 use Rattle.fin_drive.specs.declared.reading.Spot.{Spot}
 use Rattle.fin_drive.specs.Watches.{Watch, Drives, Waits, Tests, driven_in, AllShow}
+use Rattle.fin_drive.specs.Stopping.{stop_counts}
 use Rattle.fin_drive.specs.Standing.{IsDriven, StaysIn, IsForRead, ShowsMask}
 
 -- coordinates of a loop over a variable, in locals and a store and with the numbers that are bound
@@ -53,12 +54,13 @@ AllFor s (w ∷ ws) [] = ⊥
 AllFor s (w ∷ ws) (l ∷ ls) = IsFor s w l × AllFor s ws ls
 
 -- They show what is known along the coordinates, are sound there, and stop no more often than the fibres have places
--- that the entry of the loop is charged for.
+-- there; the entry of the loop is charged for all places.
 pub record ShowAlong (s : Stretch) (ws : List Watch) (ls : List Looplet) : Type 0 where
   pub shows : (c : ℕ) → s.lo ≤ c → c < s.hi
       → AllShow s.vars s.var c (c + 1 < s.hi) ws (views s.store s.locals ls (pos s.hi) (pos c))
   pub sound : AllSoundIn s.store s.locals ls (pos s.lo) (pos s.hi)
-  pub few_stops : sum (map (λ (l : Looplet). stops s.store s.locals l (pos s.lo) (pos s.hi)) ls) ≤ sum (map length_of (driven_in ws))
+  pub few_stops : sum (map (λ (l : Looplet). stops s.store s.locals l (pos s.lo) (pos s.hi)) ls) ≤ stop_counts s.vars s.var s.lo (s.hi - s.lo) (driven_in ws)
+  pub paid : (from m : ℕ) → stop_counts s.vars s.var from m (driven_in ws) ≤ sum (map length_of (driven_in ws))
 
 abbrev pub LoopletsShow : Type 0
 LoopletsShow = (s : Stretch) (ws : List Watch) (ls : List Looplet) → s.hi ≤ 2 ^ 40 → AllFor s ws ls → ShowAlong s ws ls

@@ -22,6 +22,7 @@ use Rattle.fin_drive.specs.declared.reading.Reading.{Reading}
 use Rattle.fin_drive.specs.declared.reading.Spot.{Spot}
 use Rattle.fin_drive.specs.Looplets.{other, back_offset, back, driven_looplet, mask_looplet}
 use Rattle.fin_drive.specs.Watches.{Faces, Decides}
+use Rattle.fin_drive.specs.Stopping.{stops_after, stop_count}
 
 -- ---- where a read stands
 
@@ -78,10 +79,13 @@ ShowsDriven format r s l = (end : ℤ)
 abbrev pub IsSoundDriven : Format → Reading → Spot → Looplet → Type 0
 IsSoundDriven format r s l = Along format r s (λ ts ls vars d hi c. SoundWithin Near ts ls l (λ j. j <ℤ pos hi) (pos c))
 
--- it stops no more often than the fibre has places that the entry of the loop is charged for
-abbrev pub HasFewStops : Format → Reading → Spot → Looplet → Type 0
-HasFewStops format r s l = (ts : Store) (ls : List ℤ) (vars : Numbers) (d : Driven) (lo hi : ℕ)
-    → IsDriven ts ls format r s vars d → StaysIn r vars d lo hi → stops ts ls l (pos lo) (pos hi) ≤ length_of d
+-- it stops only where the fibre has a place
+abbrev pub StopsAtPlaces : Format → Reading → Spot → Looplet → Type 0
+StopsAtPlaces format r s l = Along format r s (λ ts ls vars d hi c. (view ts ls l (pos hi) (pos c)).stop ≡ true → stops_after vars r.var d c ≡ true)
+
+-- and the entry of the loop is charged for each place
+abbrev pub IsPaid : Format → Reading → Spot → Type 0
+IsPaid format r s = (ts : Store) (ls : List ℤ) (vars : Numbers) (d : Driven) → IsDriven ts ls format r s vars d → (from m : ℕ) → stop_count vars r.var from m d ≤ length_of d
 
 -- ---- locals
 
@@ -126,7 +130,8 @@ DistancesMean = (ts : Store) (ls : List ℤ) (r : Reading) (k : ℕ) → OtherIs
 pub record IsForRead (format : Format) (r : Reading) (s : Spot) (l : Looplet) : Type 0 where
   pub shows : ShowsDriven format r s l
   pub sound : IsSoundDriven format r s l
-  pub stops : HasFewStops format r s l
+  pub stops : StopsAtPlaces format r s l
+  pub paid : IsPaid format r s
   pub owns : OwnsTwo r l
   pub depends : DependsOnSpot s l
   pub apart : IsApartInside s l

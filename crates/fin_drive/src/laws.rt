@@ -1,6 +1,7 @@
 //! What is proved of the nest of a loop.
 ghost use Rattle.fin_drive.specs.Watches.{ChunksAreNests, LoopsAreNests, LoopsFallApart};
 ghost use Rattle.fin_drive.specs.Standing.{DistancesMean, ReadsShow, MasksShow};
+ghost use Rattle.fin_drive.specs.Stopping.{StopsAdd};
 ghost use Rattle.fin_drive.specs.Loops.{LoopletsShow};
 ghost use Rattle.fin_drive.specs.Entries.{MadeNestsAreLoops};
 ghost use Rattle.fin_drive.specs.Bodies.{BodiesGoOn, BodiesAtPoints, BodiesAreFlagless, BodiesAreNothing, StatementsGoOn, StatementsUpdateOnce};
@@ -70,14 +71,21 @@ pub fn masks_show()
     ensures { MasksShow }
 {}
 
+/// The places of two stretches of a loop, one behind the other, add up to those of both.
+pub fn stops_add()
+    ensures { StopsAdd }
+{}
+
 /// The looplets of a loop's driven reads and masks, with runs for the other reads, show along its coordinates what the
-/// definition of work knows, are sound there, and stop no more often than the loop's entry is charged for.
+/// definition of work knows, are sound there, and stop no more often than there are places, for which the loop's entry is
+/// charged.
 pub fn looplets_show()
     ensures { LoopletsShow }
 {}
 
 /// A nest with the looplets that are made for a loop of a program, where the loop is entered, folds to the loop's run by
-/// pieces, chunk by chunk; its looplets are sound, and stop no more often than the entry is charged for.
+/// pieces, chunk by chunk; its looplets are sound, and stop no more often than there are places, for which the entry is
+/// charged.
 pub fn made_nests_are_loops()
     ensures { MadeNestsAreLoops }
 {
