@@ -9,6 +9,7 @@ pub mod Ranges
 pub mod Stops
 pub mod Tests
 pub mod Loops
+pub mod Inside
 pub mod Made
 pub mod Holding
 pub mod Programs

@@ -1,6 +1,6 @@
 -- The nest that has the looplets which are made for a loop of a program does what the loop does.
-use Rattle.std.proofs.Common.{◌≡◌, ℕ, zero, suc, ◌+◌, ◌-◌, ◌<◌, ◌≤◌, ◌^◌, ℤ, pos, negsuc, Bool, true, false, not, ◌&&◌, List, [], ◌∷◌, map, Option, Some, None, refl, sym, ap, ◌∙◌, arith, subst, T, IsTrue, if◌then◌else◌}
-use Rattle.std.specs.Prelude.{nat_eq, nat_lt, nat_le, IfSome, option_map, filter_map, slice_index_or, sum}
+use Rattle.std.proofs.Common.{◌≡◌, ℕ, zero, suc, ◌+◌, ◌-◌, ◌<◌, ◌≤◌, ◌^◌, ℤ, pos, negsuc, Bool, true, false, not, List, [], ◌∷◌, map, length, Option, Some, None, refl, sym, ap, ◌∙◌, arith, subst, T, IsTrue, if◌then◌else◌}
+use Rattle.std.specs.Prelude.{nat_lt, IfSome, option_map, filter_map, slice_index_or, sum}
 use Rattle.std.specs.List.{cons_option, list_all}
 use Rattle.std.proofs.lemmas.Bool.Decides.{nat_tests}
 use Rattle.fin_base.specs.declared.terms.Op.{Op}
@@ -20,17 +20,19 @@ use Rattle.fin_nest.specs.Nests.{Nest}
 use Rattle.fin_unfurl.specs.Fibres.{Asked}
 use Rattle.fin_unfurl.specs.Masks as unfurl
 use Rattle.fin_simp.specs.Rest.{Access}
-use Rattle.fin_simp.specs.Sights.{Stand, Nowhere, At, Unsettled, behind_index, one_deeper, driven_index, inside, child_at, stand_at}
+use Rattle.fin_simp.specs.Sights.{Stand, Nowhere, At, Unsettled, behind_index, driven_index, inside, child_at, stand_at}
 use Rattle.fin_simp.specs.Work.{Driven, Mask, is_comparison, is_in, parts_at, driven_at, masks_of, begins_chunk, length_of}
 use Rattle.fin_simp.specs.Costs.{MasksCompare}
-use Rattle.fin_ast.specs.Dense.{shape_at}
+use Rattle.fin_ast.specs.Dense.{shape_at, range_of}
+use Rattle.fin_simp.specs.Moving.{stays}
 use Rattle.fin_drive.specs.declared.reading.Reading.{Reading}
 use Rattle.fin_drive.specs.Looplets.{driven_looplet}
 use Rattle.fin_drive.specs.Watches.{Watch, Tests, driven_in, masks_in, AllShow, IsPart}
 use Rattle.fin_drive.specs.Stopping.{stop_counts}
 use Rattle.fin_drive.specs.Standing.{StandsFor, asked_by, IsDriven, IsForRead, ShowsMask}
 use Rattle.fin_drive.specs.Loops.{IsFor, AllFor, ShowAlong}
-use Rattle.fin_drive.specs.Entries.{Entry, stretch, watch_of, watch_all, watches, Site, reading_of, IsFound, IsHeld, IsSite, MadeRead, MadeMasks, MadeAll, IsMade, MadeNestsAreLoops}
+use Rattle.fin_drive.specs.Entries.{Entry, stretch, watch_of, watch_all, watches, Site, extent_of, reading_of, IsFound, IsHeld, IsSite, MadeRead, MadeMasks, MadeAll, IsMade, MadeNestsAreLoops}
+use Rattle.fin_drive.proofs.Inside.{first_true, second_true, driven_last, driven_stays, stays_differ, stays_inside}
 use Rattle.fin_drive.proofs.Shown.{reads_show, masks_show}
 use Rattle.fin_drive.proofs.Loops.{looplets_show}
 use Rattle.fin_drive.proofs.Parts.{chunks_are_nests}
@@ -70,27 +72,6 @@ module _ (e : Entry) where
   masks_are (a ∷ reads) ms = one_mask a (driven_index e.loop.loop.var a.at) (watch_all e reads ms) ∙ masks_are reads ms
 
 -- ---- where a driven index stands
-
-deeper_last : (var : ℕ) (o : Option (ℕ × Index)) (d : ℕ × Index) → ((x : ℕ × Index) → o ≡ Some x → behind_index x.1 ≡ var + 1) → one_deeper o ≡ Some d → behind_index d.1 ≡ var + 1
-deeper_last var None d h e = let x : ◌≡◌ {A = Option (ℕ × Index)} None (Some d) = e in cc
-deeper_last var (Some x) d h e =
-    let y : ◌≡◌ {A = Option (ℕ × Index)} (Some (x.0 + 1, x.1)) (Some d) = e in
-    let same : (x.0 + 1, x.1) ≡ d = cc in
-    subst (λ (z : ℕ × Index). behind_index z.1 ≡ var + 1) same (h x refl)
-
-last_by : (var : ℕ) (i : Index) (later : Option (ℕ × Index)) (d : ℕ × Index) → ((x : ℕ × Index) → later ≡ Some x → behind_index x.1 ≡ var + 1) → (a b : Bool) → nat_eq (behind_index i) (var + 1) ≡ b
-    → (if a then one_deeper later else (if b then Some (0, i) else None)) ≡ Some d → behind_index d.1 ≡ var + 1
-last_by var i later d h true b t e = deeper_last var later d h e
-last_by var i later d h false true t e =
-    let y : ◌≡◌ {A = Option (ℕ × Index)} (Some (0, i)) (Some d) = e in
-    let same : (0, i) ≡ d = cc in
-    let is : behind_index i ≡ var + 1 = grind (arith, nat_tests) in
-    subst (λ (z : ℕ × Index). behind_index z.1 ≡ var + 1) same is
-last_by var i later d h false false t e = let x : ◌≡◌ {A = Option (ℕ × Index)} None (Some d) = e in cc
-
-driven_last : (var : ℕ) (is : List Index) (d : ℕ × Index) → driven_index var is ≡ Some d → behind_index d.1 ≡ var + 1
-driven_last var [] d e = let x : ◌≡◌ {A = Option (ℕ × Index)} None (Some d) = e in cc
-driven_last var (i ∷ is) d e = last_by var i (driven_index var is) d (driven_last var is) (nat_le (behind_index i) var) (nat_eq (behind_index i) (var + 1)) refl e
 
 nowhere_below : (vars : Numbers) (ns : List ℕ) (ps : List Part) (is : List Index) (k : ℕ) → stand_at vars ns ps is k None ≡ Nowhere
 nowhere_below vars [] ps is k = refl
@@ -146,7 +127,7 @@ stand_lies k count q (l ∷ ls) (n ∷ ns) [] val vars is p' q' h lt e = absurd 
 
 -- ---- a read that the loop drives
 
-module _ (e : Entry) (a : Access) (d : ℕ × Index) (s : Site) where
+module _ (e : Entry) (bound : e.loop.loop.var < length e.loop.vars) (a : Access) (d : ℕ × Index) (s : Site) where
   abbrev r : Reading
   r = reading_of e a d s.cursor
 
@@ -179,21 +160,27 @@ module _ (e : Entry) (a : Access) (d : ℕ × Index) (s : Site) where
         (subst (λ (ns : List ℕ). StandsFor e.store e.locals asked true (stand_at e.loop.vars ns held.frozen.parts a.at d.0 (Some 0))) (sym held.shape)
         (stand_for (stand_at e.loop.vars held.frozen.shape held.frozen.parts a.at d.0 (Some 0)) refl held.found))
 
-  module _ (h : IsSite e a d s) where
+  module _ (h : IsSite e a d s) (index : driven_index e.loop.loop.var a.at ≡ Some d) where
+    last : behind_index d.1 ≡ e.loop.loop.var + 1
+    last = driven_last e.loop.loop.var a.at d index
+
+    index_stays : stays e.world.setting (extent_of e a d) d.1 ≡ true
+    index_stays = driven_stays e.world.setting (shape_at e.world.setting a.tensor) e.loop.loop.var a.at d h.stays index
+
     stands : (b : Bool) → is_in e.rest.changed a.tensor ≡ b
         → StandsFor e.store e.locals asked (not b) (if b then Unsettled else stand_at e.loop.vars (shape_at e.world.setting a.tensor) (parts_at e.world e.run a.tensor) a.at d.0 (Some 0))
     stands true t = tt
     stands false t = stands_held (h.held t)
 
-    driven_is : driven_index e.loop.loop.var a.at ≡ Some d → IsDriven e.store e.locals s.format r s.spot e.loop.vars (driven_at e.world e.loop.vars e.run e.rest.changed a d)
-    driven_is index = record {
+    driven_is : IsDriven e.store e.locals s.format r s.spot e.loop.vars (driven_at e.world e.loop.vars e.run e.rest.changed a d)
+    driven_is = record {
       index = refl;
       extent = refl;
       small = h.small;
       fill = h.fill;
-      bound = h.bound;
-      last = driven_last e.loop.loop.var a.at d index;
-      differs = h.differs;
+      bound = bound;
+      last = last;
+      differs = stays_differ e.world.setting (extent_of e a d) d.1 index_stays;
       stands = stands (is_in e.rest.changed a.tensor) refl;
       other_number = h.other_number;
       others = h.others;
@@ -203,7 +190,8 @@ module _ (e : Entry) (a : Access) (d : ℕ × Index) (s : Site) where
     shows : (l : Looplet) → l ≡ driven_looplet s.format r s.spot → IsForRead s.format r s.spot l
     shows l made = subst (IsForRead s.format r s.spot) (sym made) (reads_show s.format r s.spot h.level h.apart)
 
-module _ (e : Entry) (top : e.from + e.count ≤ 2 ^ 40) where
+module _ (e : Entry) (bound : e.loop.loop.var < length e.loop.vars) (begins : (range_of e.world.setting e.loop.loop.var).0 ≤ e.from)
+    (ends : e.from + e.count ≤ (range_of e.world.setting e.loop.loop.var).1) (top : e.from + e.count ≤ 2 ^ 40) where
   read_is_for : (a : Access) (l : Looplet) (o : Option (ℕ × Index)) → driven_index e.loop.loop.var a.at ≡ o → MadeRead e a o l → IsFor (stretch e) (watch_of e a o) l
   read_is_for a l None index made = made
   read_is_for a l (Some d) index made = record {
@@ -211,9 +199,14 @@ module _ (e : Entry) (top : e.from + e.count ≤ 2 ^ 40) where
     reading = reading_of e a d made.site.cursor;
     spot = made.site.spot;
     of_loop = refl;
-    is = driven_is e a d made.site made.stands index;
-    stays = record { top = top; inside = made.stands.inside };
-    shows = shows e a d made.site made.stands l made.made;
+    is = driven_is e bound a d made.site made.stands index;
+    stays = record {
+      top = top;
+      inside = λ c low high.
+          stays_inside e.world.setting e.loop.vars e.loop.loop.var c bound (omega (arith, begins, low)) (omega (arith, ends, high)) d.1 (extent_of e a d) (index_stays e bound a d made.site made.stands index)
+          (last e bound a d made.site made.stands index);
+    };
+    shows = shows e bound a d made.site made.stands index l made.made;
   }
 
   -- ---- masks
@@ -226,14 +219,6 @@ module _ (e : Entry) (top : e.from + e.count ≤ 2 ^ 40) where
   compares op.Eq h = refl
   compares op.Ne h = refl
   compares o h = absurd (subst T (sym h) tt)
-
-  first_true : (a b : Bool) → (a && b) ≡ true → a ≡ true
-  first_true true b h = refl
-  first_true false b h = h
-
-  second_true : (a b : Bool) → (a && b) ≡ true → b ≡ true
-  second_true true b h = h
-  second_true false b h = let x : false ≡ true = h in cc
 
   masks_are_for : (ms : List Mask) (ls : List Looplet) → list_all (λ (k : Mask). is_comparison k.op) ms ≡ true → MadeMasks e ms ls → AllFor (stretch e) (map Tests ms) ls
   masks_are_for [] [] all made = tt
@@ -262,7 +247,7 @@ module _ (compare : MasksCompare) (e : Entry) (n : Nest Run) (h : IsMade e n) wh
   masks = masks_of e.loop.vars e.loop.loop.var e.rest
 
   along : ShowAlong (stretch e) ws n.reads
-  along = looplets_show (stretch e) ws n.reads h.top (all_are_for e h.top e.rest.reads masks n.reads (compare e.loop.vars e.loop.loop.var e.rest) h.looplets)
+  along = looplets_show (stretch e) ws n.reads h.top (all_are_for e h.bound h.begins h.ends h.top e.rest.reads masks n.reads (compare e.loop.vars e.loop.loop.var e.rest) h.looplets)
 
   driven : driven_in ws ≡ e.loop.loop.driven
   driven = driven_are e e.rest.reads masks ∙ sym h.entered.driven

@@ -1,12 +1,10 @@
 -- The nest of a loop of a program: its looplets are made for the reads and the masks that its body has left, from what
 -- stands in locals and in tensors where the loop is entered. It does what the loop does.
-use Rattle.std.specs.Prelude.{◌≡◌, ℕ, ◌+◌, ◌<◌, ◌≤◌, ◌^◌, ◌-ℤ◌, true, false, not, List, [], ◌∷◌, length, map, sum, ℤ, pos, Option, Some, None, slice_set, slice_index_or}
+use Rattle.std.specs.Prelude.{◌≡◌, ℕ, ◌+◌, ◌<◌, ◌≤◌, ◌^◌, ◌-ℤ◌, true, false, not, List, [], ◌∷◌, length, map, sum, ℤ, pos, Option, Some, None, slice_index_or}
 use Rattle.fin_tensor.specs.declared.format.Format.{Format}
 use Rattle.fin_tensor.specs.Levels.{IsStored}
 use Rattle.fin_ast.specs.declared.tree.Index.{Index}
-use Rattle.fin_ast.specs.Value.{place}
-use Rattle.fin_ast.specs.Scope.{differ}
-use Rattle.fin_ast.specs.Dense.{fill_of, shape_at}
+use Rattle.fin_ast.specs.Dense.{fill_of, shape_at, range_of}
 use Rattle.fin_stage.specs.Staged.{Run}
 use Rattle.fin_ir.specs.declared.expression.IExpr.{IExpr}
 use Rattle.fin_ir.specs.Frozen.{Frozen}
@@ -20,7 +18,7 @@ use Rattle.fin_nest.specs.Nests.{Nest, fold, AllSoundIn}
 use Rattle.fin_unfurl.specs.Fibres.{IsApart}
 use Rattle.fin_simp.specs.Rest.{Access, Rest}
 use Rattle.fin_simp.specs.Sights.{Stand, Nowhere, At, Unsettled, driven_index, stand_at}
-use Rattle.fin_simp.specs.Lasting.{IsInside}
+use Rattle.fin_simp.specs.Moving.{access_stays}
 use Rattle.fin_simp.specs.Work.{World, Mask, parts_at, is_in, driven_at, driven_by, masks_of, length_of}
 use Rattle.fin_simp.specs.Costs.{Running}
 use Rattle.fin_drive.specs.declared.reading.Reading.{Reading}
@@ -113,12 +111,10 @@ pub record IsSite (e : Entry) (a : Access) (d : ℕ × Index) (s : Site) : Type 
   pub level : d.0 < length s.format.levels
   pub small : extent_of e a d ≤ 2 ^ 40
   pub apart : IsApart s.cursor s.spot.place
-  pub bound : e.loop.loop.var < length e.loop.vars
-  pub differs : differ d.1.first d.1.second ≡ true
+  pub stays : access_stays e.world.setting a ≡ true
   pub other_number : ℕ
   pub others : OtherIs e.loop.vars (other (reading_of e a d s.cursor)) other_number
   pub behind : value e.store e.locals s.spot.by ≡ back_offset d.1.offset -ℤ pos other_number
-  pub inside : (c : ℕ) → e.from ≤ c → c < e.from + e.count → IsInside d.1 (extent_of e a d) (place (slice_set e.loop.vars e.loop.loop.var (pos c)) d.1)
   pub held : is_in e.rest.changed a.tensor ≡ false → IsHeld e a d s
 
 -- ---- the looplets
@@ -151,8 +147,12 @@ MadeAll e (a ∷ reads) ms (l ∷ ls) = MadeRead e a (driven_index e.loop.loop.v
 
 -- ---- the nest
 
+-- its coordinates are of the loop's range
 pub record IsMade (e : Entry) (n : Nest Run) : Type 0 where
   pub entered : IsEntered e
+  pub bound : e.loop.loop.var < length e.loop.vars
+  pub begins : (range_of e.world.setting e.loop.loop.var).0 ≤ e.from
+  pub ends : e.from + e.count ≤ (range_of e.world.setting e.loop.loop.var).1
   pub body : n.body ≡ seen_turn (watched e.loop (watches e))
   pub lo : value e.store e.locals n.lo ≡ pos e.from
   pub hi : value e.store e.locals n.hi ≡ pos (e.from + e.count)
