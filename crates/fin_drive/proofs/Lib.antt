@@ -4,6 +4,7 @@ pub mod Bodies
 pub mod Offsets
 pub mod Fibres
 pub mod Along
+pub mod Leaves
 pub mod Apart
 pub mod Ranges
 pub mod Stops

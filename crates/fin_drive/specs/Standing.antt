@@ -1,6 +1,6 @@
 -- The looplet of a driven read shows what the definition of work knows of it, wherever the read stands as that has it;
 -- and the looplet of a mask what its test is.
-use Rattle.std.specs.Prelude.{◌≡◌, ◌⊎◌, ℕ, ◌+◌, ◌<◌, ◌≤◌, ◌^◌, Bool, true, false, ℤ, pos, ◌-ℤ◌, ◌<ℤ◌, List, length, Option, Some, None, slice_set, IsTrue}
+use Rattle.std.specs.Prelude.{◌≡◌, ◌⊎◌, ℕ, ◌+◌, ◌<◌, ◌≤◌, ◌^◌, Bool, true, false, if◌then◌else◌, nat_lt, ℤ, pos, negsuc, ◌-ℤ◌, ◌<ℤ◌, List, length, Option, Some, None, slice_set, IsTrue}
 use Rattle.fin_base.specs.declared.terms.Op.{Op}
 use Rattle.fin_ast.specs.Value.{Numbers, number, place}
 use Rattle.fin_ast.specs.Scope.{differ}
@@ -9,10 +9,11 @@ use Rattle.fin_ir.specs.Frozen.{Frozen}
 use Rattle.fin_ir.specs.Loads.{part_at}
 use Rattle.fin_looplet.specs.declared.looplet.Looplet.{Looplet}
 use Rattle.fin_looplet.specs.Names.{Names, Loads}
-use Rattle.fin_looplet.specs.View.{Store, value, view, stops}
+use Rattle.fin_looplet.specs.View.{Store, value, view, stops, Sight, gap, position}
 use Rattle.fin_looplet.specs.Sound.{SoundWithin, Near}
 use Rattle.fin_looplet.specs.Locals.{Free, LoadsIn, Owns, ShiftNames, Nested}
 use Rattle.fin_tensor.specs.declared.format.Format.{Format}
+use Rattle.fin_unfurl.specs.Fibres as storage
 use Rattle.fin_unfurl.specs.Fibres.{Asked, asked, IsApart, StandsAt, nowhere, at}
 use Rattle.fin_unfurl.specs.Masks.{is_comparison}
 use Rattle.fin_simp.specs.Sights.{Stand, Nowhere, At, Unsettled, behind_index}
@@ -79,6 +80,23 @@ ShowsDriven format r s l = (end : ℤ)
 abbrev pub IsSoundDriven : Format → Reading → Spot → Looplet → Type 0
 IsSoundDriven format r s l = Along format r s (λ ts ls vars d hi c. SoundWithin Near ts ls l (λ j. j <ℤ pos hi) (pos c))
 
+-- what is shown at a coordinate of the level, which a loose index may leave: the fill outside
+abbrev pub shown_at : (ℕ → Sight) → ℕ → ℤ → ℤ → Sight
+shown_at g n fill (pos m) = if nat_lt m n then g m else gap fill
+shown_at g n fill (negsuc m) = gap fill
+
+-- a fibre that is settled shows what the storage has where the index points
+abbrev pub ShowsLeaves : Format → Reading → Spot → Looplet → Type 0
+ShowsLeaves format r s l = (end : ℤ) (stand : storage.Stand)
+    → Along format r s (λ ts ls vars d hi c. r.settled ≡ true → StandsAt ts ls (asked_by format r s) stand
+    → (view ts ls l end (pos c)).seen.sight ≡ shown_at (storage.sight_at (asked_by format r s) stand) r.extent format.fill (place (slice_set vars r.var (pos c)) r.index))
+
+-- one that isn't shows the tensor, from its first level on
+abbrev pub ShowsTensor : Format → Reading → Spot → Looplet → Type 0
+ShowsTensor format r s l = (end : ℤ)
+    → Along format r s (λ ts ls vars d hi c. r.settled ≡ false
+    → (view ts ls l end (pos c)).seen.sight ≡ shown_at (λ m. position r.tensor 0 (pos 0)) r.extent format.fill (place (slice_set vars r.var (pos c)) r.index))
+
 -- it stops only where the fibre has a place
 abbrev pub StopsAtPlaces : Format → Reading → Spot → Looplet → Type 0
 StopsAtPlaces format r s l = Along format r s (λ ts ls vars d hi c. (view ts ls l (pos hi) (pos c)).stop ≡ true → stops_after vars r.var d c ≡ true)
@@ -129,6 +147,8 @@ DistancesMean = (ts : Store) (ls : List ℤ) (r : Reading) (k : ℕ) → OtherIs
 -- of a looplet that is a driven read's
 pub record IsForRead (format : Format) (r : Reading) (s : Spot) (l : Looplet) : Type 0 where
   pub shows : ShowsDriven format r s l
+  pub leaves : ShowsLeaves format r s l
+  pub tensor : ShowsTensor format r s l
   pub sound : IsSoundDriven format r s l
   pub stops : StopsAtPlaces format r s l
   pub paid : IsPaid format r s
