@@ -12,7 +12,7 @@ use Rattle.fin_tensor.specs.Levels.{IsStored, IsLevel, positions, fibres, child_
 use Rattle.fin_tensor.proofs.Walk.{child_within}
 use Rattle.fin_ast.specs.declared.tree.Index.{Index}
 use Rattle.fin_ast.specs.Value.{Numbers, place}
-use Rattle.fin_stage.specs.Staged.{Run}
+use Rattle.fin_stage.specs.Staged.{Run, worked}
 use Rattle.fin_looplet.specs.declared.looplet.Looplet.{Looplet}
 use Rattle.fin_looplet.specs.Lists.{views}
 use Rattle.fin_looplet.specs.View.{stops}
@@ -21,7 +21,7 @@ use Rattle.fin_unfurl.specs.Fibres.{Asked}
 use Rattle.fin_unfurl.specs.Masks as unfurl
 use Rattle.fin_simp.specs.Rest.{Access}
 use Rattle.fin_simp.specs.Sights.{Stand, Nowhere, At, Unsettled, behind_index, driven_index, inside, child_at, stand_at}
-use Rattle.fin_simp.specs.Work.{Driven, Mask, is_comparison, is_in, parts_at, driven_at, masks_of, begins_chunk, length_of}
+use Rattle.fin_simp.specs.Work.{Driven, Mask, is_comparison, is_in, parts_at, driven_at, masks_of, begins_chunk, length_of, entry_of}
 use Rattle.fin_simp.specs.Costs.{MasksCompare}
 use Rattle.fin_ast.specs.Dense.{shape_at, range_of}
 use Rattle.fin_simp.specs.Moving.{stays}
@@ -31,7 +31,7 @@ use Rattle.fin_drive.specs.Watches.{Watch, Tests, driven_in, masks_in, AllShow, 
 use Rattle.fin_drive.specs.Stopping.{stop_counts}
 use Rattle.fin_drive.specs.Standing.{StandsFor, asked_by, IsDriven, IsForRead, ShowsMask}
 use Rattle.fin_drive.specs.Loops.{IsFor, AllFor, ShowAlong}
-use Rattle.fin_drive.specs.Entries.{Entry, stretch, watch_of, watch_all, watches, Site, extent_of, reading_of, IsFound, IsHeld, IsSite, MadeRead, MadeMasks, MadeAll, IsMade, MadeNestsAreLoops}
+use Rattle.fin_drive.specs.Entries.{Entry, stretch, watch_of, watch_all, watches, Site, extent_of, reading_of, IsFound, IsHeld, IsSite, MadeRead, MadeMasks, MadeAll, IsMade, MadeNestsAreLoops, entered, MadeNestsRun}
 use Rattle.fin_drive.proofs.Inside.{first_true, second_true, driven_last, driven_stays, stays_differ, stays_inside}
 use Rattle.fin_drive.proofs.Shown.{reads_show, masks_show}
 use Rattle.fin_drive.proofs.Loops.{looplets_show}
@@ -277,3 +277,8 @@ made_nests_are_loops compare e n h = record {
   few_stops = few_along compare e n h;
   paid = λ from m. subst (λ (ds : List Driven). stop_counts e.loop.vars e.loop.loop.var from m ds ≤ sum (map length_of ds)) (driven compare e n h) ((along compare e n h).paid from m);
 }
+
+pub made_nests_run : MasksCompare → MadeNestsRun
+made_nests_run compare w _ ctx var _ body _ _ vars r ts ls n made =
+    let e = entered w ctx var body vars r ts ls in
+    (made_nests_are_loops compare e n made).loop refl (worked (entry_of e.loop.loop) r)

@@ -4,8 +4,10 @@ use Rattle.std.specs.Prelude.{◌≡◌, ℕ, ◌+◌, ◌<◌, ◌≤◌, ◌^�
 use Rattle.fin_tensor.specs.declared.format.Format.{Format}
 use Rattle.fin_tensor.specs.Levels.{IsStored}
 use Rattle.fin_ast.specs.declared.tree.Index.{Index}
+use Rattle.fin_ast.specs.declared.tree.Stmt.TheOpen.{Stmt-F}
+use Rattle.fin_ast.specs.Value.{Numbers}
 use Rattle.fin_ast.specs.Dense.{fill_of, shape_at, range_of}
-use Rattle.fin_stage.specs.Staged.{Run}
+use Rattle.fin_stage.specs.Staged.{Run, worked}
 use Rattle.fin_ir.specs.declared.expression.IExpr.{IExpr}
 use Rattle.fin_ir.specs.Frozen.{Frozen}
 use Rattle.fin_ir.specs.Machine.{stored}
@@ -18,8 +20,9 @@ use Rattle.fin_nest.specs.Nests.{Nest, fold, AllSoundIn}
 use Rattle.fin_unfurl.specs.Fibres.{IsApart}
 use Rattle.fin_simp.specs.Rest.{Access, Rest}
 use Rattle.fin_simp.specs.Sights.{Stand, Nowhere, At, Unsettled, driven_index, stand_at}
-use Rattle.fin_simp.specs.Moving.{access_stays}
-use Rattle.fin_simp.specs.Work.{World, Mask, parts_at, is_in, driven_at, driven_by, masks_of, length_of}
+use Rattle.fin_simp.specs.Moving.{access_stays, running}
+use Rattle.fin_simp.specs.Numbered.{Here}
+use Rattle.fin_simp.specs.Work.{World, Mask, parts_at, is_in, driven_at, driven_by, masks_of, length_of, Context, Worked, rests_in, inside, enter, entry_of, done}
 use Rattle.fin_simp.specs.Costs.{Running}
 use Rattle.fin_drive.specs.declared.reading.Reading.{Reading}
 use Rattle.fin_drive.specs.declared.reading.Spot.{Spot}
@@ -171,3 +174,24 @@ pub record DoesLoop (e : Entry) (n : Nest Run) : Type 0 where
 
 abbrev pub MadeNestsAreLoops : Type 0
 MadeNestsAreLoops = (e : Entry) (n : Nest Run) → IsMade e n → DoesLoop e n
+
+-- ---- a loop of a program that isn't parallel
+
+-- as it is entered, over all of its coordinates
+abbrev pub entered : World → Context → ℕ → List Worked → Numbers → Run → Store → List ℤ → Entry
+entered w ctx var body vars r ts ls = record {
+  world = w;
+  run = r;
+  rest = rests_in (inside ctx var None) body;
+  loop = running w ctx var false body vars r;
+  store = ts;
+  locals = ls;
+  from = (enter w (inside ctx var None) var false body vars r).lo;
+  count = (enter w (inside ctx var None) var false body vars r).len;
+}
+
+-- such a nest does what the statement does, behind the charge of the loop's entry
+abbrev pub MadeNestsRun : Type 0
+MadeNestsRun = (w : World) (h : Here) (ctx : Context) (var : ℕ) (range : Option (ℕ × ℕ)) (body : List Worked) (line last : ℕ) (vars : Numbers) (r : Run)
+    → (ts : Store) (ls : List ℤ) (n : Nest Run) → IsMade (entered w ctx var body vars r ts ls) n
+    → fold (λ s. s) ts ls n (worked (entry_of (entered w ctx var body vars r ts ls).loop.loop) r) ≡ done w h (Stmt-F.Loop var range false body line last) ctx vars r

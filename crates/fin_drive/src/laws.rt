@@ -3,7 +3,7 @@ ghost use Rattle.fin_drive.specs.Watches.{ChunksAreNests, LoopsAreNests, LoopsFa
 ghost use Rattle.fin_drive.specs.Standing.{DistancesMean, ReadsShow, MasksShow};
 ghost use Rattle.fin_drive.specs.Stopping.{StopsAdd};
 ghost use Rattle.fin_drive.specs.Loops.{LoopletsShow};
-ghost use Rattle.fin_drive.specs.Entries.{MadeNestsAreLoops};
+ghost use Rattle.fin_drive.specs.Entries.{MadeNestsAreLoops, MadeNestsRun};
 ghost use Rattle.fin_drive.specs.Bodies.{BodiesGoOn, BodiesAtPoints, BodiesAreFlagless, BodiesAreNothing, StatementsGoOn, StatementsUpdateOnce};
 
 use fin_simp::masks_compare;
@@ -88,6 +88,14 @@ pub fn looplets_show()
 /// charged.
 pub fn made_nests_are_loops()
     ensures { MadeNestsAreLoops }
+{
+    masks_compare();
+}
+
+/// Over all coordinates of a loop of a program that isn't parallel such a nest does what the statement does, behind the
+/// charge of the loop's entry.
+pub fn made_nests_run()
+    ensures { MadeNestsRun }
 {
     masks_compare();
 }
