@@ -125,7 +125,8 @@ module _ (format : Format) (r : Reading) (spot : Spot) (within : r.level < lengt
         omega (arith, next.2, ap up here.1, ap down here.1, ap up next.1, ap down next.1, sum_is_lem (pos (c + k)) r.index.offset, sum_is_lem (pos (c + 1 + k)) r.index.offset)
 
     plain_faces : (plain : r.index.loose ≡ false) (c : ℕ) (low : lo ≤ c) (high : c < hi) (v : View)
-        → Faces v (stand_sight walked r.extent d.stand (lands plain c low high).0) format.fill ((lands plain c low high).0 + 1 < r.extent) → Faces v (sight_at r.index r.extent d.stand (z c)) format.fill (c + 1 < hi)
+        → Faces v (stand_sight walked r.extent d.stand (lands plain c low high).0) format.fill ((lands plain c low high).0 + 1 < r.extent)
+        → Faces v (sight_at r.index r.extent d.stand (z c)) format.fill (c + 1 < hi)
     plain_faces plain c low high v f =
         let m = lands plain c low high in
         let s = stand_sight walked r.extent d.stand m.0 in
@@ -136,8 +137,10 @@ module _ (format : Format) (r : Reading) (spot : Spot) (within : r.level < lengt
     near : (c : ℕ) → c < 2 ^ 40 → IsNear (w c)
     near c low =
         subst IsNear (sym (back_is c))
-        (let y = pos c -ℤ (back_offset r.index.offset -ℤ pos k) in
-        (at_most_in (negsuc (2 ^ 42)) y (omega (arith, reaches c k r.extent r.index.offset low few h.small)), at_most_in y (pos (2 ^ 42 + 2 ^ 41)) (omega (arith, reaches c k r.extent r.index.offset low few h.small))))
+        (let y = pos c -ℤ (back_offset r.index.offset -ℤ pos k) in (
+          at_most_in (negsuc (2 ^ 42)) y (omega (arith, reaches c k r.extent r.index.offset low few h.small)),
+          at_most_in y (pos (2 ^ 42 + 2 ^ 41)) (omega (arith, reaches c k r.extent r.index.offset low few h.small)),
+        ))
 
     -- the bare variable is the coordinate
     pub bare_is : other r ≡ None → r.index.offset ≡ pos 0 → (c : ℕ) → z c ≡ pos c
@@ -154,7 +157,8 @@ module _ (format : Format) (r : Reading) (spot : Spot) (within : r.level < lengt
         let m = lands plain c low high in
         back_is c ∙ within_meets c k r.extent r.index.offset (omega (arith, high, stays.top)) few h.small m.0 m.1 m.2
 
-    shows_kind : (end : ℤ) (l : Looplet) → Kinds r format.fill fibre spot.by l → (c : ℕ) → lo ≤ c → c < hi → Faces (view ts ls l end (pos c)) (sight_at r.index r.extent d.stand (z c)) format.fill (c + 1 < hi)
+    shows_kind : (end : ℤ) (l : Looplet) → Kinds r format.fill fibre spot.by l → (c : ℕ) → lo ≤ c → c < hi
+        → Faces (view ts ls l end (pos c)) (sight_at r.index r.extent d.stand (z c)) format.fill (c + 1 < hi)
     shows_kind end l (inl q) c low high =
         let m = lands q.1 c low high in
         let same : m.0 ≡ c = own (sym m.1 ∙ bare_is q.2 q.3 c) in
@@ -165,7 +169,8 @@ module _ (format : Format) (r : Reading) (spot : Spot) (within : r.level < lengt
         let lt : c < 2 ^ 40 = omega (arith, high, stays.top) in
         subst (λ (x : Looplet). Faces (view ts ls x end (pos c)) (sight_at r.index r.extent d.stand (z c)) format.fill (c + 1 < hi)) (sym q.0)
         (subst (λ (s : known.Sight). Faces (view ts ls (edged fibre spot.by r.extent format.fill) end (pos c)) s format.fill (c + 1 < hi))
-        (ap (sight_at r.index r.extent d.stand) (back_is c) ∙ outside_same r.index r.extent d.stand (pos c -ℤ (back_offset r.index.offset -ℤ pos k)) (z c) (meets c k r.extent r.index.offset lt few h.small))
+        (ap (sight_at r.index r.extent d.stand) (back_is c) ∙ outside_same r.index r.extent d.stand (pos c -ℤ (back_offset r.index.offset -ℤ pos k)) (z c)
+        (meets c k r.extent r.index.offset lt few h.small))
         (edged_faces fibre spot.by r.extent format.fill h.small ts ls d.stand r.index q.1 faces c end (c + 1 < hi) lt (λ more. omega (arith, more, stays.top))))
     shows_kind end l (inr (inr q)) c low high =
         let m = lands q.1 c low high in
@@ -173,7 +178,8 @@ module _ (format : Format) (r : Reading) (spot : Spot) (within : r.level < lengt
         plain_faces q.1 c low high (view ts ls l end (pos c))
         (subst (λ (x : Looplet). Faces (view ts ls x end (pos c)) (stand_sight walked r.extent d.stand m.0) format.fill (m.0 + 1 < r.extent)) (sym q.0)
         (subst (λ (v : View). Faces v (stand_sight walked r.extent d.stand m.0) format.fill (m.0 + 1 < r.extent)) (sym (view_shift ts ls spot.by fibre end (pos c)))
-        (subst (λ (y : ℤ). Faces (view ts ls fibre (end -ℤ b) y) (stand_sight walked r.extent d.stand m.0) format.fill (m.0 + 1 < r.extent)) (sym (moved_is q.1 c low high)) (faces (end -ℤ b) m.0 m.2))))
+        (subst (λ (y : ℤ). Faces (view ts ls fibre (end -ℤ b) y) (stand_sight walked r.extent d.stand m.0) format.fill (m.0 + 1 < r.extent))
+        (sym (moved_is q.1 c low high)) (faces (end -ℤ b) m.0 m.2))))
 
     sound_kind : (served : Places) (l : Looplet) → Kinds r format.fill fibre spot.by l → (c : ℕ) → lo ≤ c → c < hi → SoundWithin IsNear ts ls l served (pos c)
     sound_kind served l (inl q) c low high =

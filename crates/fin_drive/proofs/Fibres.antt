@@ -35,7 +35,11 @@ fibre_by a settled coord = if settled then unfurl_of a else unknown a.tensor coo
 
 leaf_fill : (a : Asked) (s : Frozen) (o : Option ℕ) → fill_of (sight_of a s o) ≡ (if is_none o then Some a.format.fill else None)
 leaf_fill a s None = refl
-leaf_fill a s (Some q) = elim (nat_eq (a.level + 1) (length a.format.levels)) as (λ b. fill_of (if b then word (slice_index_or s.val q (pos 0)) else position a.tensor (a.level + 1) (pos q)) ≡ None) [ true ↦ refl | false ↦ refl ]
+leaf_fill a s (Some q) =
+    elim (nat_eq (a.level + 1) (length a.format.levels)) as (λ b. fill_of (if b then word (slice_index_or s.val q (pos 0)) else position a.tensor (a.level + 1) (pos q)) ≡ None) [
+      | true ↦ refl
+      | false ↦ refl
+    ]
 
 no_gap : (b : Bool) (tensor : ℕ) (z : ℤ) → fill_of (if b then absent else position tensor 0 z) ≡ None
 no_gap true tensor z = refl
@@ -54,7 +58,11 @@ module _ (a : Asked) (within : a.level < length a.format.levels) (apart : IsApar
       (record { gap = ap fill_of s.sight ∙ leaf_fill a h.0 (child_in a.extent (part_at h.0.parts a.level) q m); varies = s.varies; ends = s.ends })
 
   unknown_faces : (coord : ℕ) (fill : ℤ) (end : ℤ) (m : ℕ) → Faces (view ts ls (unknown a.tensor coord) end (pos m)) (stand_sight walked a.extent Unsettled m) fill (m + 1 < a.extent)
-  unknown_faces coord fill end m = record { gap = no_gap (is_off (value ts (slice_set ls coord (pos m)) (Num (pos 1)))) a.tensor (value ts (slice_set ls coord (pos m)) (Num (pos 0))); varies = refl; ends = λ i. refl }
+  unknown_faces coord fill end m = record {
+    gap = no_gap (is_off (value ts (slice_set ls coord (pos m)) (Num (pos 1)))) a.tensor (value ts (slice_set ls coord (pos m)) (Num (pos 0)));
+    varies = refl;
+    ends = λ i. refl;
+  }
 
   pub fibre_faces : (settled : Bool) (coord : ℕ) (stand : Stand) → StandsFor ts ls a settled stand → (end : ℤ) (m : ℕ) → m < a.extent
       → Faces (view ts ls (fibre_by a settled coord) end (pos m)) (stand_sight walked a.extent stand m) a.format.fill (m + 1 < a.extent)
@@ -102,7 +110,8 @@ module _ (child : Looplet) (by : IExpr) (n : ℕ) (fill : ℤ) (small : n ≤ 2 
   b = value ts ls by
 
   -- a part before the box ends where that begins
-  before_faces : (inside : Type 0) (w : ℤ) (e : Bool) → (w ≡ negsuc 0 → e ≡ true) → (w <ℤ negsuc 0 → e ≡ false) → w <ℤ pos 0 → Faces (ended e false (plain false (gap fill))) (sight_at i n stand w) fill inside
+  before_faces : (inside : Type 0) (w : ℤ) (e : Bool) → (w ≡ negsuc 0 → e ≡ true) → (w <ℤ negsuc 0 → e ≡ false) → w <ℤ pos 0
+      → Faces (ended e false (plain false (gap fill))) (sight_at i n stand w) fill inside
   before_faces inside (pos m) e first further h = absurd (omega (arith, lt_out (pos m) (pos 0) h))
   before_faces inside (negsuc zero) e first further h = record { gap = refl; varies = refl; ends = λ x. ap (λ y. y || false) (first refl ∙ sym loose) }
   before_faces inside (negsuc (suc m)) e first further h = record { gap = refl; varies = refl; ends = λ x. or_false e ∙ further (below_in (negsuc (suc m)) (negsuc 0) (omega arith)) }
@@ -144,6 +153,7 @@ module _ (child : Looplet) (by : IExpr) (n : ℕ) (fill : ℤ) (small : n ≤ 2 
       }))))
       (λ (h : Behind child by n fill small ts ls c).
       subst (λ (v : View). Faces v (sight_at i n stand w) fill inside) (sym (view_behind child by n fill small ts ls c end lt h))
-      (subst (λ (s : known.Sight). Faces (ended (int_le (pos (2 ^ 40)) (pos (c + 1))) false (plain false (gap fill))) s fill inside) (sym (behind_empty i n stand w (at_most_in (pos n) w (omega (arith, sub, h)))))
+      (subst (λ (s : known.Sight). Faces (ended (int_le (pos (2 ^ 40)) (pos (c + 1))) false (plain false (gap fill))) s fill inside) (sym (behind_empty i n stand w (at_most_in (pos n) w (omega
+      (arith, sub, h)))))
       (record { gap = refl; varies = refl; ends = λ x. or_false (int_le (pos (2 ^ 40)) (pos (c + 1))) ∙ sym (false_is_le (pos (2 ^ 40)) (pos (c + 1)) (omega (arith, next x))) })))
       r) (where_is child by n fill small ts ls c)

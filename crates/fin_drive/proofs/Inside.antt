@@ -45,7 +45,8 @@ module _ (var : ℕ) (P : ℕ → Index → Type 0) where
       let far : k + 1 + x.0 ≡ k + (x.0 + 1) = omega arith in
       subst (λ (z : ℕ × Index). P (k + z.0) z.1) same (subst (λ (j : ℕ). P j x.1) far (h x refl))
 
-  here : (k : ℕ) (i : Index) (later : Option (ℕ × Index)) (d : ℕ × Index) → (behind_index i ≡ var + 1 → P k i) → ((x : ℕ × Index) → later ≡ Some x → P (k + 1 + x.0) x.1) → (a b : Bool) → nat_eq (behind_index i) (var + 1) ≡ b
+  here : (k : ℕ) (i : Index) (later : Option (ℕ × Index)) (d : ℕ × Index) → (behind_index i ≡ var + 1 → P k i) → ((x : ℕ × Index) → later ≡ Some x → P (k + 1 + x.0) x.1) → (a b : Bool)
+      → nat_eq (behind_index i) (var + 1) ≡ b
       → (if a then one_deeper later else (if b then Some (0, i) else None)) ≡ Some d → P (k + d.0) d.1
   here k i later d p h true b t e = deeper k later d h e
   here k i later d p h false true t e =
@@ -99,7 +100,16 @@ lands : (o : ℤ) (lo hi n c : ℕ) → leaves o (lo, hi) n ≡ false → lo ≤
 lands (pos k) lo hi n c q low high = (c + k, same_in ((pos c +ℤ pos 0) +ℤ pos k) (pos (c + k)) (omega (arith, sum_is_lem (pos c +ℤ pos 0) (pos k), sum_is_lem (pos c) (pos 0))), small) where
   small : c + k < n
   small = grind (arith, nat_tests)
-lands (negsuc k) lo hi n c q low high = (c - (k + 1), same_in ((pos c +ℤ pos 0) +ℤ negsuc k) (pos (c - (k + 1))) (omega (arith, far, sum_is_lem (pos c +ℤ pos 0) (negsuc k), sum_is_lem (pos c) (pos 0))), small) where
+lands (negsuc k) lo hi n c q low high = (
+  c - (k + 1),
+  same_in ((pos c +ℤ pos 0) +ℤ negsuc k) (pos (c - (k + 1))) (omega (
+    arith,
+    far,
+    sum_is_lem (pos c +ℤ pos 0) (negsuc k),
+    sum_is_lem (pos c) (pos 0),
+  )),
+  small,
+) where
   far : k + 1 ≤ lo
   far = grind (arith, nat_tests)
 

@@ -61,14 +61,16 @@ module _ (g : ℕ → Sight) (n : ℕ) (fill : ℤ) where
         let w = pos c -ℤ value ts ls by in
         let sub = sub_of (pos c) (value ts ls by) in
         ⊎_elim
-        (λ (h : Before child by n fill small ts ls c). ap (λ (v : View). v.seen.sight) (view_before child by n fill small ts ls c end lt h) ∙ sym (on_before w (below_in w (pos 0) (omega (arith, sub, h)))))
+        (λ (h : Before child by n fill small ts ls c). ap (λ (v : View). v.seen.sight) (view_before child by n fill small ts ls c end lt h)
+        ∙ sym (on_before w (below_in w (pos 0) (omega (arith, sub, h)))))
         (λ r. ⊎_elim
         (λ (h : Inside child by n fill small ts ls c).
         let m = natural w (at_most_in (pos 0) w (omega (arith, sub, h))) in
         let inner : m.0 < n = omega (arith, sub, h, ap up m.1, ap down m.1) in
         ap (λ (v : View). v.seen.sight) (view_inside child by n fill small ts ls c end lt h)
         ∙ ap (λ (y : ℤ). (view ts ls child (pos n) y).seen.sight) m.1 ∙ shown (pos n) m.0 inner ∙ sym (on_inside m.0 inner) ∙ ap on (sym m.1))
-        (λ (h : Behind child by n fill small ts ls c). ap (λ (v : View). v.seen.sight) (view_behind child by n fill small ts ls c end lt h) ∙ sym (on_behind w (at_most_in (pos n) w (omega (arith, sub, h)))))
+        (λ (h : Behind child by n fill small ts ls c). ap (λ (v : View). v.seen.sight) (view_behind child by n fill small ts ls c end lt h)
+        ∙ sym (on_behind w (at_most_in (pos n) w (omega (arith, sub, h)))))
         r) (where_is child by n fill small ts ls c)
 
 -- ---- along a region

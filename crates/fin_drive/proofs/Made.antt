@@ -103,7 +103,8 @@ module _ (l : Level) (n count : ℕ) (p : Part) (q : ℕ) (level : IsLevel l n c
 abbrev Lies : List ℕ → List Part → ℕ → ℕ → Part → ℕ → Type 0
 Lies ns ps count k p q = (p ≡ slice_index_or ps k part.Dense) × (q < fibres ns ps count k)
 
-below_lies : (k count : ℕ) (ns : List ℕ) (ps : List Part) (vars : Numbers) (is : List Index) (p : Part) (q : ℕ) → ((y : ℕ) → y < count → stand_at vars ns ps is k (Some y) ≡ At p q → Lies ns ps count k p q)
+below_lies : (k count : ℕ) (ns : List ℕ) (ps : List Part) (vars : Numbers) (is : List Index) (p : Part) (q : ℕ) → ((y : ℕ) → y < count → stand_at vars ns ps is k (Some y) ≡ At p q
+    → Lies ns ps count k p q)
     → (o : Option ℕ) → ((y : ℕ) → o ≡ Some y → y < count) → stand_at vars ns ps is k o ≡ At p q → Lies ns ps count k p q
 below_lies k count ns ps vars is p q lies None small s = let x : Nowhere ≡ At p q = sym (nowhere_below vars ns ps is k) ∙ s in cc
 below_lies k count ns ps vars is p q lies (Some y) small s = lies y (small y refl) s
@@ -135,7 +136,8 @@ module _ (e : Entry) (bound : e.loop.loop.var < length e.loop.vars) (a : Access)
   asked = asked_by s.format r s.spot
 
   module _ (held : IsHeld e a d s) where
-    stand_for : (stand : Stand) → stand_at e.loop.vars held.frozen.shape held.frozen.parts a.at d.0 (Some 0) ≡ stand → IsFound e.store e.locals s.spot stand → StandsFor e.store e.locals asked true stand
+    stand_for : (stand : Stand) → stand_at e.loop.vars held.frozen.shape held.frozen.parts a.at d.0 (Some 0) ≡ stand → IsFound e.store e.locals s.spot stand
+        → StandsFor e.store e.locals asked true stand
     stand_for Nowhere at found = found
     stand_for Unsettled at found = absurd found
     stand_for (At p q) at found =
@@ -203,7 +205,8 @@ module _ (e : Entry) (bound : e.loop.loop.var < length e.loop.vars) (begins : (r
     stays = record {
       top = top;
       inside = λ c low high.
-          stays_inside e.world.setting e.loop.vars e.loop.loop.var c bound (omega (arith, begins, low)) (omega (arith, ends, high)) d.1 (extent_of e a d) (index_stays e bound a d made.site made.stands index)
+          stays_inside e.world.setting e.loop.vars e.loop.loop.var c bound (omega (arith, begins, low)) (omega (arith, ends, high)) d.1 (extent_of e a d)
+          (index_stays e bound a d made.site made.stands index)
           (last e bound a d made.site made.stands index);
     };
     shows = shows e bound a d made.site made.stands index l made.made;
@@ -232,7 +235,8 @@ module _ (e : Entry) (bound : e.loop.loop.var < length e.loop.vars) (begins : (r
         masks_are_for ms ls (second_true (is_comparison k.op) rest all) made.1,
       )
 
-  all_are_for : (reads : List Access) (ms : List Mask) (ls : List Looplet) → list_all (λ (k : Mask). is_comparison k.op) ms ≡ true → MadeAll e reads ms ls → AllFor (stretch e) (watch_all e reads ms) ls
+  all_are_for : (reads : List Access) (ms : List Mask) (ls : List Looplet) → list_all (λ (k : Mask). is_comparison k.op) ms ≡ true → MadeAll e reads ms ls
+      → AllFor (stretch e) (watch_all e reads ms) ls
   all_are_for [] ms ls all made = masks_are_for ms ls all made
   all_are_for (a ∷ reads) ms [] all made = absurd made
   all_are_for (a ∷ reads) ms (l ∷ ls) all made = (read_is_for a l (driven_index e.loop.loop.var a.at) refl made.0, all_are_for reads ms ls all made.1)
@@ -262,11 +266,14 @@ module _ (compare : MasksCompare) (e : Entry) (n : Nest Run) (h : IsMade e n) wh
     shows = λ c low high. subst (λ (z : ℤ). AllShow e.loop.vars e.loop.loop.var c (c + 1 < e.from + e.count) ws (views e.store e.locals n.reads z (pos c))) (sym h.hi) (along.shows c low high);
   }
 
-  few_along : sum (map (λ (l : Looplet). stops e.store e.locals l (pos e.from) (pos (e.from + e.count))) n.reads) ≤ stop_counts e.loop.vars e.loop.loop.var e.from e.count e.loop.loop.driven
+  abbrev all_stops : ℕ
+  all_stops = sum (map (λ (l : Looplet). stops e.store e.locals l (pos e.from) (pos (e.from + e.count))) n.reads)
+
+  few_along : all_stops ≤ stop_counts e.loop.vars e.loop.loop.var e.from e.count e.loop.loop.driven
   few_along =
       let long : e.from + e.count - e.from ≡ e.count = omega arith in
-      subst (λ (ds : List Driven). sum (map (λ (l : Looplet). stops e.store e.locals l (pos e.from) (pos (e.from + e.count))) n.reads) ≤ stop_counts e.loop.vars e.loop.loop.var e.from e.count ds) driven
-      (subst (λ (k : ℕ). sum (map (λ (l : Looplet). stops e.store e.locals l (pos e.from) (pos (e.from + e.count))) n.reads) ≤ stop_counts e.loop.vars e.loop.loop.var e.from k (driven_in ws)) long along.few_stops)
+      subst (λ (ds : List Driven). all_stops ≤ stop_counts e.loop.vars e.loop.loop.var e.from e.count ds) driven
+      (subst (λ (k : ℕ). all_stops ≤ stop_counts e.loop.vars e.loop.loop.var e.from k (driven_in ws)) long along.few_stops)
 
 pub made_nests_are_loops : MasksCompare → MadeNestsAreLoops
 made_nests_are_loops compare e n h = record {

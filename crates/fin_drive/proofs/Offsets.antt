@@ -90,12 +90,14 @@ Near o = (up o ≤ down o + (2 ^ 41 + 1)) × (down o ≤ up o + (2 ^ 41 + 1))
 pub back_cases : (o : ℤ) → (Near o × (back_offset o ≡ neg_ℤ o))
     ⊎ (((up o + (2 ^ 41 + 1) ≤ down o) × (back_offset o ≡ pos (2 ^ 41 + 1))) ⊎ ((down o + (2 ^ 41 + 1) ≤ up o) × (back_offset o ≡ negsuc (2 ^ 41))))
 back_cases o =
-    elim (int_lt o (negsuc (2 ^ 41))) as (λ a. int_lt o (negsuc (2 ^ 41)) ≡ a → (Near o × ((if a then pos (2 ^ 41 + 1) else (if int_lt (pos (2 ^ 41 + 1)) o then negsuc (2 ^ 41) else neg_ℤ o)) ≡ neg_ℤ o))
+    elim (int_lt o (negsuc (2 ^ 41))) as (λ a. int_lt o (negsuc (2 ^ 41)) ≡ a
+    → (Near o × ((if a then pos (2 ^ 41 + 1) else (if int_lt (pos (2 ^ 41 + 1)) o then negsuc (2 ^ 41) else neg_ℤ o)) ≡ neg_ℤ o))
     ⊎ (((up o + (2 ^ 41 + 1) ≤ down o) × ((if a then pos (2 ^ 41 + 1) else (if int_lt (pos (2 ^ 41 + 1)) o then negsuc (2 ^ 41) else neg_ℤ o)) ≡ pos (2 ^ 41 + 1)))
     ⊎ ((down o + (2 ^ 41 + 1) ≤ up o) × ((if a then pos (2 ^ 41 + 1) else (if int_lt (pos (2 ^ 41 + 1)) o then negsuc (2 ^ 41) else neg_ℤ o)) ≡ negsuc (2 ^ 41))))) [
       | true ↦ (λ x. inr (inl (omega (arith, lt-true o (negsuc (2 ^ 41)) x), refl)))
       | false ↦ (λ x. elim (int_lt (pos (2 ^ 41 + 1)) o) as (λ b. int_lt (pos (2 ^ 41 + 1)) o ≡ b → (Near o × ((if b then negsuc (2 ^ 41) else neg_ℤ o) ≡ neg_ℤ o))
-          ⊎ (((up o + (2 ^ 41 + 1) ≤ down o) × ((if b then negsuc (2 ^ 41) else neg_ℤ o) ≡ pos (2 ^ 41 + 1))) ⊎ ((down o + (2 ^ 41 + 1) ≤ up o) × ((if b then negsuc (2 ^ 41) else neg_ℤ o) ≡ negsuc (2 ^ 41))))) [
+          ⊎ (((up o + (2 ^ 41 + 1) ≤ down o) × ((if b then negsuc (2 ^ 41) else neg_ℤ o) ≡ pos (2 ^ 41 + 1)))
+          ⊎ ((down o + (2 ^ 41 + 1) ≤ up o) × ((if b then negsuc (2 ^ 41) else neg_ℤ o) ≡ negsuc (2 ^ 41))))) [
             | true ↦ (λ y. inr (inr (omega (arith, lt-true (pos (2 ^ 41 + 1)) o y), refl)))
             | false ↦ (λ y. inl ((omega (arith, lt-false (pos (2 ^ 41 + 1)) o y), omega (arith, lt-false o (negsuc (2 ^ 41)) x)), refl))
           ] refl)

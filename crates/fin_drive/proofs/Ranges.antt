@@ -85,7 +85,8 @@ passing_by : (p : ℕ → Bool) (a m k n : ℕ) → n ≡ m + k → length (filt
 passing_by p a zero k n sum =
     let same : n ≡ k = omega (arith, sum) in
     let here : a ≡ a + 0 = omega arith in
-    let e : length (filter p (range_with_len a n)) ≡ length (filter p (range_with_len (a + 0) k)) = ap (λ j. length (filter p (range_with_len a j))) same ∙ ap (λ b. length (filter p (range_with_len b k))) here in
+    let e : length (filter p (range_with_len a n)) ≡ length (filter p (range_with_len (a + 0) k)) = ap (λ j. length (filter p (range_with_len a j))) same
+    ∙ ap (λ b. length (filter p (range_with_len b k))) here in
     omega (arith, e)
 passing_by p a (suc m) k zero sum = absurd (omega (arith, sum))
 passing_by p a (suc m) k (suc n) sum =

@@ -52,7 +52,8 @@ no_walk true s = refl
 no_walk false s = refl
 
 module _ (a : Asked) (within : a.level < length a.format.levels) (apart : IsApart a.cursor a.place) (ts : Store) (ls : List ℤ) where
-  fibre_stop : (settled : Bool) (coord : ℕ) (stand : Stand) → StandsFor ts ls a settled stand → (end : ℤ) (m : ℕ) → m < a.extent → (view ts ls (fibre_by a settled coord) end (pos m)).stop ≡ true → stops_known stand m ≡ true
+  fibre_stop : (settled : Bool) (coord : ℕ) (stand : Stand) → StandsFor ts ls a settled stand → (end : ℤ) (m : ℕ) → m < a.extent → (view ts ls (fibre_by a settled coord) end (pos m)).stop ≡ true
+      → stops_known stand m ≡ true
   fibre_stop true coord Nowhere h end m lt e = (shows a within apart ts ls nowhere h m end lt).stop e
   fibre_stop true coord (At x q) h end m lt e = same_stop x q m ∙ ap (λ (y : Part). stop_after y q m) h.1 ∙ (shows a within apart ts ls (at h.0 q) h.2 m end lt).stop e
   fibre_stop true coord Unsettled h end m lt e = absurd h
@@ -60,7 +61,8 @@ module _ (a : Asked) (within : a.level < length a.format.levels) (apart : IsApar
   fibre_stop false coord (At x q) h end m lt e = absurd h
   fibre_stop false coord Unsettled h end m lt e = e
 
-  few_known : (settled : Bool) (stand : Stand) → StandsFor ts ls a settled stand → (i : Index) (lo m : ℕ) → length (filter (λ k. stops_known stand (lo + k)) (range_with_len 0 m)) ≤ length_at i.proto stand
+  few_known : (settled : Bool) (stand : Stand) → StandsFor ts ls a settled stand → (i : Index) (lo m : ℕ)
+      → length (filter (λ k. stops_known stand (lo + k)) (range_with_len 0 m)) ≤ length_at i.proto stand
   few_known settled Nowhere h i lo m = omega (arith, filter_none 0 m)
   few_known settled Unsettled h i lo m = omega (arith, filter_none 0 m)
   few_known true (At x q) h i lo m =
@@ -128,18 +130,21 @@ module _ (format : Format) (r : Reading) (spot : Spot) (within : r.level < lengt
             m.0,
             is,
             stop_at (pos n) m.0 inner (ap (λ (y : ℤ). (view ts ls fibre (pos n) y).stop) (sym m.1)
-                ∙ sym (no_walk (int_le (value ts ls spot.by +ℤ pos n) (pos (c + 1))) (view ts ls fibre (pos n) w).stop) ∙ sym (ap (λ (v : View). v.stop) (view_inside fibre spot.by n format.fill h.small ts ls c (pos hi) lt i)) ∙ e),
+                ∙ sym (no_walk (int_le (value ts ls spot.by +ℤ pos n) (pos (c + 1))) (view ts ls fibre (pos n) w).stop)
+                ∙ sym (ap (λ (v : View). v.stop) (view_inside fibre spot.by n format.fill h.small ts ls c (pos hi) lt i)) ∙ e),
           )
 
       edged_stop : stop_of (edged fibre spot.by n format.fill) ≡ true → Stops
       edged_stop e =
           ⊎_elim
           (λ (i : Before fibre spot.by n format.fill h.small ts ls c).
-          absurd (subst T (sym (sym (no_walk (int_le (value ts ls spot.by) (pos (c + 1))) false) ∙ sym (ap (λ (v : View). v.stop) (view_before fibre spot.by n format.fill h.small ts ls c (pos hi) lt i)) ∙ e)) tt))
+          absurd (subst T (sym (sym (no_walk (int_le (value ts ls spot.by) (pos (c + 1))) false)
+          ∙ sym (ap (λ (v : View). v.stop) (view_before fibre spot.by n format.fill h.small ts ls c (pos hi) lt i)) ∙ e)) tt))
           (λ s. ⊎_elim
           (λ (i : Inside fibre spot.by n format.fill h.small ts ls c). inside_stop i e)
           (λ (i : Behind fibre spot.by n format.fill h.small ts ls c).
-          absurd (subst T (sym (sym (no_walk (int_le (pos (2 ^ 40)) (pos (c + 1))) false) ∙ sym (ap (λ (v : View). v.stop) (view_behind fibre spot.by n format.fill h.small ts ls c (pos hi) lt i)) ∙ e)) tt))
+          absurd (subst T (sym (sym (no_walk (int_le (pos (2 ^ 40)) (pos (c + 1))) false)
+          ∙ sym (ap (λ (v : View). v.stop) (view_behind fibre spot.by n format.fill h.small ts ls c (pos hi) lt i)) ∙ e)) tt))
           s) (where_is fibre spot.by n format.fill h.small ts ls c)
 
       stop_kind : (l : Looplet) → Kinds r format.fill fibre spot.by l → stop_of l ≡ true → Stops
@@ -162,6 +167,17 @@ module _ (format : Format) (r : Reading) (spot : Spot) (within : r.level < lengt
       let all = counted (stops_known d.stand) (length_of d) (λ lo count. few_known a within apart ts ls r.settled d.stand h.stands d.index lo count) (λ i. p (from + i)) from m by
       (λ i small e.
       let got = known_at d.stand (place (slice_set vars r.var (pos (from + i))) d.index) e in
-      let is : pos (from + i + other) +ℤ o ≡ pos got.0 = sym (points ts ls vars d h (from + i)) ∙ got.1 in
-      (got.0, same_in (pos (from + i) -ℤ by) (pos got.0) (omega (arith, sub_of (pos (from + i)) by, sub_of (pos 0) (pos other +ℤ o), sum_is_lem (pos other) o, sum_is_lem (pos (from + i + other)) o, ap up is, ap down is)), got.2)) in
+      let is : pos (from + i + other) +ℤ o ≡ pos got.0 = sym (points ts ls vars d h (from + i)) ∙ got.1 in (
+        got.0,
+        same_in (pos (from + i) -ℤ by) (pos got.0) (omega (
+          arith,
+          sub_of (pos (from + i)) by,
+          sub_of (pos 0) (pos other +ℤ o),
+          sum_is_lem (pos other) o,
+          sum_is_lem (pos (from + i + other)) o,
+          ap up is,
+          ap down is,
+        )),
+        got.2,
+      )) in
       omega (arith, begun, all)

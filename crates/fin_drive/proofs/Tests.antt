@@ -121,7 +121,8 @@ module _ (o : Op) (bare_first : Bool) (bound : IExpr) (compares : IsTrue (is_com
         (or_one (int_eq z (pos c)) (int_eq z (pos (c + 1))) e) in
         ap (λ (y : ℤ). (view ts ls l (pos hi) y).ends) (sym back_one) ∙ (breaks.1 (omega arith, more, met)).ends)
 
-  mask_decides : (ts : Store) (ls : List ℤ) (k : Mask) (hi c : ℕ) → k.op ≡ o → k.bare_first ≡ bare_first → k.bound ≡ value ts ls bound → hi ≤ 2 ^ 40 → c < hi → Decides (view ts ls l (pos hi) (pos c)) k c (c + 1 < hi)
+  mask_decides : (ts : Store) (ls : List ℤ) (k : Mask) (hi c : ℕ) → k.op ≡ o → k.bare_first ≡ bare_first → k.bound ≡ value ts ls bound → hi ≤ 2 ^ 40 → c < hi
+      → Decides (view ts ls l (pos hi) (pos c)) k c (c + 1 < hi)
   mask_decides ts ls k hi c op_is first_is bound_is top high = record {
     word = word_is ts ls hi c top high
         ∙ ap (λ (f : Bool). Some (if f then operate o (pos c) (value ts ls bound) else operate o (value ts ls bound) (pos c))) (sym first_is)
@@ -138,7 +139,11 @@ module _ (o : Op) (bare_first : Bool) (bound : IExpr) (compares : IsTrue (is_com
         arith,
         filter_none 0 m,
         filter_at_most (λ k. (view ts ls l (pos hi) (pos lo +ℤ pos k)).stop) (λ k. false) 0 m (λ k low lt e.
-            let sum : pos lo +ℤ pos k ≡ pos (lo + k + 1) -ℤ pos 1 = same_in (pos lo +ℤ pos k) (pos (lo + k + 1) -ℤ pos 1) (omega (arith, sum_is_lem (pos lo) (pos k), sub_of (pos (lo + k + 1)) (pos 1))) in
+            let sum : pos lo +ℤ pos k ≡ pos (lo + k + 1) -ℤ pos 1 = same_in (pos lo +ℤ pos k) (pos (lo + k + 1) -ℤ pos 1) (omega (
+              arith,
+              sum_is_lem (pos lo) (pos k),
+              sub_of (pos (lo + k + 1)) (pos 1),
+            )) in
             absurd (mask_stops (used o bare_first) bound comparing ts ls lo hi top (lo + k + 1) (record {
               after = below_in (pos lo) (pos (lo + k + 1)) (omega arith);
               before = below_in (pos (lo + k + 1)) (pos hi) (omega (arith, lt, long));

@@ -77,15 +77,15 @@ pub fn stops_add()
 {}
 
 /// The looplets of a loop's driven reads and masks, with runs for the other reads, show along its coordinates what the
-/// definition of work knows, are sound there, and stop no more often than there are places, for which the loop's entry is
-/// charged.
+/// definition of work knows, are sound there, and stop no more often than there are places, for which the loop's entry
+/// is charged.
 pub fn looplets_show()
     ensures { LoopletsShow }
 {}
 
-/// A nest with the looplets that are made for a loop of a program, where the loop is entered, folds to the loop's run by
-/// pieces, chunk by chunk; its looplets are sound, and stop no more often than there are places, for which the entry is
-/// charged.
+/// A nest with the looplets that are made for a loop of a program, where the loop is entered, folds to the loop's run
+/// by pieces, chunk by chunk; its looplets are sound, and stop no more often than there are places, for which the entry
+/// is charged.
 pub fn made_nests_are_loops()
     ensures { MadeNestsAreLoops }
 {

@@ -35,7 +35,8 @@ module _ (child : Looplet) (by : IExpr) where
   near_names : (x : ℕ) → Names x (near by) → Names x by
   near_names x h =
       ⊎_elim
-      (λ (k : Names x (Two op.Min by (Num (pos (2 ^ 40))))). ⊎_elim (λ (j : Names x by). j) (λ (j : Names x (Num (pos (2 ^ 40)))). absurd (names_num x (pos (2 ^ 40)) j)) (names_two x op.Min by (Num (pos (2 ^ 40))) k))
+      (λ (k : Names x (Two op.Min by (Num (pos (2 ^ 40))))). ⊎_elim (λ (j : Names x by). j) (λ (j : Names x (Num (pos (2 ^ 40)))). absurd (names_num x (pos (2 ^ 40)) j))
+      (names_two x op.Min by (Num (pos (2 ^ 40))) k))
       (λ (k : Names x (Num (negsuc (2 ^ 41)))). absurd (names_num x (negsuc (2 ^ 41)) k))
       (names_two x op.Max (Two op.Min by (Num (pos (2 ^ 40)))) (Num (negsuc (2 ^ 41))) h)
 
@@ -49,7 +50,8 @@ module _ (child : Looplet) (by : IExpr) where
       (λ s. ⊎_elim (λ (h : ⊥). absurd h) (λ (h : Free x (Sequence [])). absurd (free_no_phase x h)) s) (from_free_phase x third [] q)) in
       let box : Free x (Sequence (second ∷ third ∷ [])) → Names x by ⊎ Free x child =
       (λ q. ⊎_elim
-      (λ (h : Names x (Two op.Add (near by) (Num (pos n)))). ⊎_elim (λ (j : Names x (near by)). inl (near_names x j)) (λ (j : Names x (Num (pos n))). absurd (names_num x (pos n) j)) (names_two x op.Add (near by) (Num (pos n)) h))
+      (λ (h : Names x (Two op.Add (near by) (Num (pos n)))). ⊎_elim (λ (j : Names x (near by)). inl (near_names x j)) (λ (j : Names x (Num (pos n))). absurd (names_num x (pos n) j))
+      (names_two x op.Add (near by) (Num (pos n)) h))
       (λ s. ⊎_elim (λ (h : Free x (Shift by child)). from_free_shift x by child h) (λ (h : Free x (Sequence (third ∷ []))). last h) s)
       (from_free_phase x second (third ∷ []) q)) in
       ⊎_elim
@@ -77,7 +79,8 @@ module _ (o : Op) (b : IExpr) where
   bounded_names : (x : ℕ) → Names x (bounded b) → Names x b
   bounded_names x h =
       ⊎_elim
-      (λ (k : Names x (Two op.Min b (Num (pos (2 ^ 40))))). ⊎_elim (λ (j : Names x b). j) (λ (j : Names x (Num (pos (2 ^ 40)))). absurd (names_num x (pos (2 ^ 40)) j)) (names_two x op.Min b (Num (pos (2 ^ 40))) k))
+      (λ (k : Names x (Two op.Min b (Num (pos (2 ^ 40))))). ⊎_elim (λ (j : Names x b). j) (λ (j : Names x (Num (pos (2 ^ 40)))). absurd (names_num x (pos (2 ^ 40)) j))
+      (names_two x op.Min b (Num (pos (2 ^ 40))) k))
       (λ (k : Names x (Num (negsuc 0))). absurd (names_num x (negsuc 0) k))
       (names_two x op.Max (Two op.Min b (Num (pos (2 ^ 40)))) (Num (negsuc 0)) h)
 
@@ -95,7 +98,8 @@ module _ (o : Op) (b : IExpr) where
       (λ s. ⊎_elim (λ (h : Free x third.child). absurd (word_free x (holds_behind o) third.stop h)) (λ (h : Free x (Sequence [])). absurd (free_no_phase x h)) s) (from_free_phase x third [] q)) in
       let middle : Free x (Sequence (second ∷ third ∷ [])) → Names x b =
       (λ q. ⊎_elim
-      (λ (h : Names x (next (bounded b))). ⊎_elim (λ (j : Names x (bounded b)). bounded_names x j) (λ (j : Names x (Num (pos 1))). absurd (names_num x (pos 1) j)) (names_two x op.Add (bounded b) (Num (pos 1)) h))
+      (λ (h : Names x (next (bounded b))). ⊎_elim (λ (j : Names x (bounded b)). bounded_names x j) (λ (j : Names x (Num (pos 1))). absurd (names_num x (pos 1) j))
+      (names_two x op.Add (bounded b) (Num (pos 1)) h))
       (λ s. ⊎_elim (λ (h : Free x second.child). absurd (word_free x (holds_at o) second.stop h)) (λ (h : Free x (Sequence (third ∷ []))). last h) s)
       (from_free_phase x second (third ∷ []) q)) in
       ⊎_elim

@@ -287,7 +287,8 @@ module _ (child : Looplet) (by : IExpr) where
   near_loads : (t : ℕ) → Loads t (near by) → Loads t by
   near_loads t h =
       ⊎_elim
-      (λ (k : Loads t (Two op.Min by (Num (pos (2 ^ 40))))). ⊎_elim (λ (j : Loads t by). j) (λ (j : Loads t (Num (pos (2 ^ 40)))). absurd (loads_num t (pos (2 ^ 40)) j)) (loads_two t op.Min by (Num (pos (2 ^ 40))) k))
+      (λ (k : Loads t (Two op.Min by (Num (pos (2 ^ 40))))). ⊎_elim (λ (j : Loads t by). j) (λ (j : Loads t (Num (pos (2 ^ 40)))). absurd (loads_num t (pos (2 ^ 40)) j))
+      (loads_two t op.Min by (Num (pos (2 ^ 40))) k))
       (λ (k : Loads t (Num (negsuc (2 ^ 41)))). absurd (loads_num t (negsuc (2 ^ 41)) k))
       (loads_two t op.Max (Two op.Min by (Num (pos (2 ^ 40)))) (Num (negsuc (2 ^ 41))) h)
 
@@ -296,7 +297,8 @@ module _ (child : Looplet) (by : IExpr) where
   shift_loads (Some e) t h = of_three (three_loads (outside e.1 by) (boxed child by e.0) (outside e.1 (Num (pos (2 ^ 40)))) t h) where
     of_three : StopsOrChildren (outside e.1 by) (boxed child by e.0) (outside e.1 (Num (pos (2 ^ 40)))) t → Loads t by ⊎ LoadsIn t child
     of_three (inl (inl k)) = inl k
-    of_three (inl (inr (inl k))) = ⊎_elim (λ (j : Loads t (near by)). inl (near_loads t j)) (λ (j : Loads t (Num (pos e.0))). absurd (loads_num t (pos e.0) j)) (loads_two t op.Add (near by) (Num (pos e.0)) k)
+    of_three (inl (inr (inl k))) = ⊎_elim (λ (j : Loads t (near by)). inl (near_loads t j)) (λ (j : Loads t (Num (pos e.0))). absurd (loads_num t (pos e.0) j))
+        (loads_two t op.Add (near by) (Num (pos e.0)) k)
     of_three (inl (inr (inr k))) = absurd (loads_num t (pos (2 ^ 40)) k)
     of_three (inr (inl k)) = absurd k
     of_three (inr (inr (inl k))) = from_loads_shift t by child k
@@ -324,7 +326,8 @@ module _ (o : Op) (b : IExpr) where
     bounded_loads : Loads t (bounded b) → Loads t b
     bounded_loads h =
         ⊎_elim
-        (λ (k : Loads t (Two op.Min b (Num (pos (2 ^ 40))))). ⊎_elim (λ (j : Loads t b). j) (λ (j : Loads t (Num (pos (2 ^ 40)))). absurd (loads_num t (pos (2 ^ 40)) j)) (loads_two t op.Min b (Num (pos (2 ^ 40))) k))
+        (λ (k : Loads t (Two op.Min b (Num (pos (2 ^ 40))))). ⊎_elim (λ (j : Loads t b). j) (λ (j : Loads t (Num (pos (2 ^ 40)))). absurd (loads_num t (pos (2 ^ 40)) j))
+        (loads_two t op.Min b (Num (pos (2 ^ 40))) k))
         (λ (k : Loads t (Num (negsuc 0))). absurd (loads_num t (negsuc 0) k))
         (loads_two t op.Max (Two op.Min b (Num (pos (2 ^ 40)))) (Num (negsuc 0)) h)
 
