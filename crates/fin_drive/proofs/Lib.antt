@@ -12,6 +12,7 @@ pub mod Tests
 pub mod Loops
 pub mod Inside
 pub mod Made
+pub mod Separation
 pub mod Holding
 pub mod Programs
 pub mod Shown

@@ -126,6 +126,17 @@ stand_lies k count q [] (n ∷ ns) ps val vars is p' q' h lt e = absurd h
 stand_lies k count q (l ∷ ls) [] ps val vars is p' q' h lt e = absurd h
 stand_lies k count q (l ∷ ls) (n ∷ ns) [] val vars is p' q' h lt e = absurd h
 
+-- ---- comparisons are the same to both
+
+pub compares : (o : Op) → is_comparison o ≡ true → IsTrue (unfurl.is_comparison o)
+compares op.Lt h = refl
+compares op.Le h = refl
+compares op.Gt h = refl
+compares op.Ge h = refl
+compares op.Eq h = refl
+compares op.Ne h = refl
+compares o h = absurd (subst T (sym h) tt)
+
 -- ---- a read that the loop drives
 
 module _ (e : Entry) (bound : e.loop.loop.var < length e.loop.vars) (a : Access) (d : ℕ × Index) (s : Site) where
@@ -213,15 +224,6 @@ module _ (e : Entry) (bound : e.loop.loop.var < length e.loop.vars) (begins : (r
   }
 
   -- ---- masks
-
-  compares : (o : Op) → is_comparison o ≡ true → IsTrue (unfurl.is_comparison o)
-  compares op.Lt h = refl
-  compares op.Le h = refl
-  compares op.Gt h = refl
-  compares op.Ge h = refl
-  compares op.Eq h = refl
-  compares op.Ne h = refl
-  compares o h = absurd (subst T (sym h) tt)
 
   masks_are_for : (ms : List Mask) (ls : List Looplet) → list_all (λ (k : Mask). is_comparison k.op) ms ≡ true → MadeMasks e ms ls → AllFor (stretch e) (map Tests ms) ls
   masks_are_for [] [] all made = tt

@@ -5,4 +5,5 @@ pub mod Stopping
 pub mod Standing
 pub mod Loops
 pub mod Entries
+pub mod Separation
 pub mod Bodies

@@ -4,6 +4,7 @@ ghost use Rattle.fin_drive.specs.Standing.{DistancesMean, ReadsShow, MasksShow};
 ghost use Rattle.fin_drive.specs.Stopping.{StopsAdd};
 ghost use Rattle.fin_drive.specs.Loops.{LoopletsShow};
 ghost use Rattle.fin_drive.specs.Entries.{MadeNestsAreLoops, MadeNestsRun};
+ghost use Rattle.fin_drive.specs.Separation.{MadeKeepApart};
 ghost use Rattle.fin_drive.specs.Bodies.{BodiesGoOn, BodiesAtPoints, BodiesAreFlagless, BodiesAreNothing, StatementsGoOn, StatementsUpdateOnce};
 
 use fin_simp::masks_compare;
@@ -96,6 +97,14 @@ pub fn made_nests_are_loops()
 /// charge of the loop's entry.
 pub fn made_nests_run()
     ensures { MadeNestsRun }
+{
+    masks_compare();
+}
+
+/// The looplets of such a nest own no local that one of them depends on, and no two own one, where the locals of their
+/// own stand in no expression that they are made from.
+pub fn made_keep_apart()
+    ensures { MadeKeepApart }
 {
     masks_compare();
 }
