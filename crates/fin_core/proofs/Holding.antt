@@ -1,12 +1,11 @@
 -- Tensors and their functions, and lists of effects as loop code lists them.
-use Rattle.std.proofs.Common.{◌≡◌, ◌≢◌, ℕ, zero, suc, ◌<◌, ◌+◌, inl, ⊎_elim, Bool, true, false, List, [], ◌∷◌, length, get_or, set, map, length-set, get_or-set_same, get_or-set_other, refl, sym, ap, subst, ◌∙◌, ℤ, pos, arith, IsTrue, rules}
+use Rattle.std.proofs.Common.{◌≡◌, ◌≢◌, ℕ, zero, suc, ◌<◌, ◌+◌, inl, ⊎_elim, true, false, List, [], ◌∷◌, length, get_or, set, map, drop, length-set, get_or-set_same, get_or-set_other, refl, sym, ap, subst, ◌∙◌, ℤ, pos, arith, IsTrue, rules}
 use Rattle.std.specs.Prelude.{if◌then◌else◌, nat_eq, ◌&&◌, None, Option, unwrap_or, Vec}
 use Rattle.std.specs.Global.{Global}
 use Rattle.std.specs.FinMap.{get, get-empty}
 use Rattle.std.specs.Cmp.Lexicographic.{slice_cmp}
 use Rattle.std.specs.Ordering.{nat_cmp}
-use Rattle.std.proofs.lemmas.Bool.Decides.{nat_tests}
-use Rattle.std.specs.List.{remove, list_all}
+use Rattle.std.specs.List.{list_all}
 use Rattle.std.proofs.lemmas.Bool.{eq-eqb, ne_eqb}
 use Rattle.std.proofs.lemmas.List.{get_or_past, map-set}
 use mathlib.Core.Logic.{dite}
@@ -22,9 +21,10 @@ use Rattle.fin_build.proofs.Joining.{always_follows}
 use Rattle.fin_ir.specs.Machine as machine
 use Rattle.fin_ir.specs.Machine.{put}
 use Rattle.fin_core.specs.declared.effect.Effect.{Effect}
+use Rattle.fin_core.specs.declared.queue.Queue.{Queue}
 use Rattle.fin_core.specs.Effects.{Words, are_same, act}
 use Rattle.fin_core.specs.Interleaving.{serial, queue, taken_off, first_of, rest_after, state_after, IsIn, AreWords, Free}
-use Rattle.fin_core.specs.Cores.{meant, lists, no_tensor, tensor_at, values, put_in, LiesIn, AllLie, AreUnordered, AllBuilt}
+use Rattle.fin_core.specs.Cores.{meant, listed, lists, no_tensor, tensor_at, values, put_in, LiesIn, AllLie, AreUnordered, AllBuilt}
 use Rattle.fin_core.proofs.Order.{in_rest, free_on, words_on, event_keeps}
 
 -- ---- words
@@ -59,15 +59,15 @@ words_in : (q : List Effect) (e : machine.Effect) → IsIn e (map meant q) → I
 words_in [] e i = absurd i
 words_in (x ∷ q) e i = ⊎_elim (λ (same : meant x ≡ e). subst (λ (f : machine.Effect). IsWord f.value) same x.word) (λ more. words_in q e more) i
 
-pub queue_is : (qs : List (Vec Effect Global)) (k : ℕ) (q : Vec Effect Global) → k < length qs → q ≡ get_or qs k q → queue (lists qs) k ≡ map meant q.items
+pub queue_is : (qs : List Queue) (k : ℕ) (q : Queue) → k < length qs → q ≡ get_or qs k q → queue (lists qs) k ≡ map meant q.waiting.items
 queue_is [] k q h is = absurd (omega arith)
-queue_is (p ∷ qs) zero q h is = ap (λ (x : Vec Effect Global). map meant x.items) (sym is)
+queue_is (p ∷ qs) zero q h is = ap (λ (x : Queue). map meant x.waiting.items) (sym is)
 queue_is (p ∷ qs) (suc k) q h is = queue_is qs k q (omega arith) is
 
 none_queued : (k : ℕ) → queue (lists []) k ≡ []
 none_queued k = refl
 
-pub listed_words : (qs : List (Vec Effect Global)) → AreWords (lists qs)
+pub listed_words : (qs : List (Vec Effect Global)) → AreWords (listed qs)
 listed_words [] k e i = absurd i
 listed_words (q ∷ qs) zero e i = words_in q.items e i
 listed_words (q ∷ qs) (suc k) e i = listed_words qs k e i
@@ -117,26 +117,21 @@ lie_on ts e qs k h = λ l f i.
     (subst (λ n. f.tensor < n) (sym (length-set ts e.tensor (put e (tensor_at ts e.tensor)))) p.0, subst (λ (ns : List ℕ). IsTrue (is_in_box ns f.at)) (sym (shape_on ts e f.tensor)) p.1)
 
 -- ---- one event
-pub rest_is : (qs : List (Vec Effect Global)) (k : ℕ) (q q' : Vec Effect Global) → k < length qs → q ≡ get_or qs k q → q'.items ≡ remove q.items 0 → lists (set qs k q') ≡ rest_after k (lists qs)
+pub rest_is : (qs : List Queue) (k : ℕ) (q q' : Queue) → k < length qs → q ≡ get_or qs k q → q'.waiting.items ≡ drop 1 q.waiting.items → lists (set qs k q') ≡ rest_after k (lists qs)
 rest_is qs k q q' h is gone =
-    map-set (λ (p : Vec Effect Global). map meant p.items) qs k q'
-    ∙ ap (set (lists qs) k) (ap (map meant) gone ∙ first_removed q.items ∙ ap taken_off (sym (queue_is qs k q h is)))
+    map-set (λ (p : Queue). map meant p.waiting.items) qs k q'
+    ∙ ap (set (lists qs) k) (ap (map meant) gone ∙ first_dropped q.waiting.items ∙ ap taken_off (sym (queue_is qs k q h is)))
   where
-    first_removed : (p : List Effect) → map meant (remove p 0) ≡ taken_off (map meant p)
-    first_removed [] = refl
-    first_removed (x ∷ p) = refl
+    first_dropped : (p : List Effect) → map meant (drop 1 p) ≡ taken_off (map meant p)
+    first_dropped [] = refl
+    first_dropped (x ∷ p) = refl
 
-not_empty : (n : ℕ) (b : Bool) → b ≡ nat_eq n 0 → b ≡ false → 0 < n
-not_empty n b e f = let z : nat_eq n 0 ≡ false = sym e ∙ f in grind (arith, nat_tests)
+length_is : (q : Queue) → q.waiting.len ≡ length q.waiting.items
+length_is q = q.waiting.ok.0
 
-length_is : (p : Vec Effect Global) → p.len ≡ length p.items
-length_is p = let ok = p.ok in omega (arith, ok)
-
--- p and q are the same list, looked at twice
-pub next_is : (qs : List (Vec Effect Global)) (k : ℕ) (p q : Vec Effect Global) (b : Bool) (e : Effect) → k < length qs → p ≡ get_or qs k p → b ≡ nat_eq p.len 0 → b ≡ false → q ≡ get_or qs k q → e ≡ get_or q.items 0 e → (es : List machine.Effect) × (queue (lists qs) k ≡ meant e ∷ es)
-next_is qs k p q b e h there eb full is got =
-    let same : p ≡ q = there ∙ any_default qs k p q h ∙ sym is in
-    let n = head q.items e (subst (λ (x : Vec Effect Global). 0 < length x.items) same (subst (λ n. 0 < n) (length_is p) (not_empty p.len b eb full))) got in (n.0, queue_is qs k q h is ∙ n.1)
+pub next_is : (qs : List Queue) (k : ℕ) (q : Queue) (e : Effect) → k < length qs → q ≡ get_or qs k q → 0 < q.waiting.len → e ≡ get_or q.waiting.items 0 e → (es : List machine.Effect) × (queue (lists qs) k ≡ meant e ∷ es)
+next_is qs k q e h is full got =
+    let n = head q.waiting.items e (subst (λ n. 0 < n) (length_is q) full) got in (n.0, queue_is qs k q h is ∙ n.1)
   where
     head : (p : List Effect) (e : Effect) → 0 < length p → e ≡ get_or p 0 e → (es : List machine.Effect) × (map meant p ≡ meant e ∷ es)
     head [] e h g = absurd (omega arith)

@@ -8,6 +8,7 @@ use Rattle.fin_tensor.specs.Building.{Building, unchanged, no_format}
 use Rattle.fin_build.specs.Builders.{IsBuilding}
 use Rattle.fin_ir.specs.Machine as machine
 use Rattle.fin_core.specs.declared.effect.Effect.{Effect}
+use Rattle.fin_core.specs.declared.queue.Queue.{Queue}
 use Rattle.fin_core.specs.Effects.{State}
 use Rattle.fin_core.specs.Interleaving.{queue, IsIn}
 
@@ -15,8 +16,13 @@ use Rattle.fin_core.specs.Interleaving.{queue, IsIn}
 abbrev pub meant : Effect → machine.Effect
 meant e = record { tensor = e.tensor; at = e.at; by = e.by; value = e.value }
 
-abbrev pub lists : List (Vec Effect Global) → List (List machine.Effect)
-lists qs = map (λ q. map meant q.items) qs
+-- lists as they are handed in
+abbrev pub listed : List (Vec Effect Global) → List (List machine.Effect)
+listed qs = map (λ q. map meant q.items) qs
+
+-- the lists of a core
+abbrev pub lists : List Queue → List (List machine.Effect)
+lists qs = map (λ (q : Queue). map meant q.waiting.items) qs
 
 -- where there is no tensor
 abbrev pub no_tensor : Building

@@ -1,10 +1,11 @@
 //! The core, and its events.
-ghost use Rattle.std.specs.Prelude.{◌≡◌, ◌<◌, length, OnOk, OnErr};
+ghost use Rattle.std.specs.Prelude.{◌≡◌, ◌<◌, length, IfOk, OnOk, OnErr};
 ghost use Rattle.fin_core.specs.Effects.{Words};
 ghost use Rattle.fin_core.specs.Interleaving.{Free};
-ghost use Rattle.fin_core.specs.Cores.{meant, lists, values, put_in, LiesIn, AllLie, AreUnordered, AllBuilt};
+ghost use Rattle.fin_core.specs.Cores.{meant, listed, lists, values, put_in, LiesIn, AllLie, AreUnordered, AllBuilt};
 
 use crate::effect::Effect;
+use crate::queue::{Queue, queues};
 use fin_build::Builder;
 use std::alloc::AllocError;
 
@@ -12,7 +13,7 @@ use std::alloc::AllocError;
 #[derive(Drop)]
 pub struct Core {
     tensors: Vec<Builder>,
-    effects: Vec<Vec<Effect>>,
+    effects: Vec<Queue>,
     ghost free: { Free (lists effects.items) },
     ghost words: { Words (values tensors.items) },
     ghost lie: { AllLie tensors.items (lists effects.items) },
@@ -20,7 +21,7 @@ pub struct Core {
 }
 
 impl Core {
-    ghost use Rattle.std.specs.Prelude.{◌↔◌, false, [], IfOk};
+    ghost use Rattle.std.specs.Prelude.{◌↔◌, false, []};
     ghost use Rattle.fin_core.specs.Interleaving.{Settled};
     ghost use Rattle.fin_core.specs.Cores.{tensor_at};
     ghost use Rattle.fin_core.specs.Events.{waiting, IsTakenOff, IsPut, IsNextState, HasSameSerial, IsAsBefore};
@@ -28,11 +29,12 @@ impl Core {
     /// These tensors, and one list of effects for each chunk.
     pub fn new(tensors: Vec<Builder>, effects: Vec<Vec<Effect>>) -> Result<Core, AllocError>
         requires levels { AreUnordered tensors.items }
-        requires lie { AllLie tensors.items (lists effects.items) }
-        requires settled { Settled (lists effects.items) }
-        ensures { IfOk result (λ core. (core.tensors ≡ tensors) × (core.effects ≡ effects)) }
+        requires lie { AllLie tensors.items (listed effects.items) }
+        requires settled { Settled (listed effects.items) }
+        ensures { IfOk result (λ core. (core.tensors ≡ tensors) × (lists core.effects.items ≡ listed effects.items)) }
     {
         are_built(tensors.as_slice());
+        let effects = queues(effects)?;
         Ok(Core { tensors, effects })
     }
 
@@ -48,11 +50,11 @@ impl Core {
         ensures err { OnErr result (IsAsBefore self.old self.new) }
     {
         let chunk = chunk as usize;
-        if self.effects[chunk].is_empty() {
+        let Some(effect) = self.effects[chunk].waiting.front() else {
             return Ok(false);
-        }
-        update(&mut self.tensors, &self.effects[chunk][0])?;
-        self.effects[chunk].remove(0);
+        };
+        update(&mut self.tensors, effect)?;
+        self.effects[chunk].waiting.pop_front();
         Ok(true)
     }
 

@@ -9,6 +9,7 @@
 mod effect;
 mod events;
 mod laws;
+mod queue;
 
 pub use effect::Effect;
 pub use events::Core;
