@@ -44,19 +44,20 @@ use Rattle.fin_read.proofs.Indexing.{indices_are, loop_is_bound}
 use Rattle.fin_read.proofs.Naming.{local_below, box, count_named, indices_named, values_are_named}
 use Rattle.fin_read.proofs.Stepping.{agree_less, agree_then}
 use Rattle.fin_read.proofs.Valuing.{values_mean}
-use Rattle.fin_lower.specs.Lowering.{charge_of, count_of}
-use Rattle.fin_lower.specs.Plans.{heads_in, sides_in, layout_of}
+use Rattle.fin_perform.specs.Codes.{charge_of, count_of}
+use Rattle.fin_perform.specs.Layouts.{heads_in}
+use Rattle.fin_lower.specs.Plans.{room_of, sides_in, layout_of}
 use Rattle.fin_lower.specs.Lowered.{start_of}
 use Rattle.fin_nest.specs.Related.{Live}
-use Rattle.fin_lower.proofs.Seen.{all_seen}
+use Rattle.fin_perform.proofs.Seen.{all_seen}
 use Rattle.fin_lower.proofs.Placed.{declared_named, frozen_named, thawed_named, access_named, updating_named, updating_room, code_declare, code_freeze, code_thaw, code_update}
-use Rattle.fin_lower.proofs.Valued.{Asked, asked, all_append, Valued, value_goes, good, was_small}
+use Rattle.fin_nest.proofs.Statements.{all_append}
+use Rattle.fin_perform.proofs.Valued.{Asked, asked, Valued, good, was_small}
 use Rattle.fin_lower.proofs.Bodies.{Goes}
-use Rattle.fin_lower.proofs.Beginning.{variables_fit}
-use Rattle.fin_lower.proofs.Putting.{declare_goes, freeze_goes, thaw_goes}
-use Rattle.fin_lower.proofs.Updating.{update_goes}
-use Rattle.fin_lower.proofs.Control.{by_both, block_goes, loop_goes, cond_goes, bind_goes}
-use Rattle.fin_lower.proofs.Naming.{Named, named_seq, named_when, named_charge, charge_named, one_more, some_more, value_is_named, block_named, loop_named, cond_named, bind_named}
+use Rattle.fin_perform.proofs.Putting.{declare_goes, freeze_goes, thaw_goes}
+use Rattle.fin_perform.proofs.Updating.{update_goes}
+use Rattle.fin_lower.proofs.Control.{by_both, placed_value, block_goes, loop_goes, cond_goes, bind_goes}
+use Rattle.fin_lower.proofs.Naming.{variables_fit, Named, named_seq, named_when, named_charge, charge_named, one_more, some_more, value_is_named, block_named, loop_named, cond_named, bind_named}
 
 -- ---- what a statement does
 
@@ -68,22 +69,22 @@ module _ (c : Checked) (inputs : List Storage) (fits : FitHeaders c.program.head
   declared_goes tensor value line sc ps vars r m p f long same l g =
       let e = act_declare (staging (setting_of c inputs)) vars r tensor value line in
       by_both c inputs ps _ _ _ _ e (ap (λ (x : Code). meaning (layout_of c) x m) (code_declare (sides_in c) (length ps) tensor value line))
-      (declare_goes c inputs fits given_fit ps r m l tensor (there (λ (h : Header). int_eq value h.format.fill) sc tensor p.headers (declared_named c sc (length ps) tensor value line f)) (sym (ap regular e) ∙ g))
+      (declare_goes c (room_of c) inputs fits given_fit ps r m l tensor (there (λ (h : Header). int_eq value h.format.fill) sc tensor p.headers (declared_named c sc (length ps) tensor value line f)) (sym (ap regular e) ∙ g))
 
   frozen_goes : (tensor line : ℕ) → Goes c inputs (s.Freeze tensor line)
   frozen_goes tensor line sc ps vars r m p f long same l g =
       let e = act_freeze (staging (setting_of c inputs)) vars r tensor line in
       by_both c inputs ps _ _ _ _ e (ap (λ (x : Code). meaning (layout_of c) x m) (code_freeze (sides_in c) (length ps) tensor line))
-      (freeze_goes c inputs fits given_fit counts_mean ps r m l tensor (sym (ap regular e) ∙ g))
+      (freeze_goes c (room_of c) inputs fits given_fit counts_mean ps r m l tensor (sym (ap regular e) ∙ g))
 
   thawed_goes : (tensor line : ℕ) → Goes c inputs (s.Thaw tensor line)
   thawed_goes tensor line sc ps vars r m p f long same l g =
       let e = act_thaw (staging (setting_of c inputs)) vars r tensor line in
       by_both c inputs ps _ _ _ _ e (ap (λ (x : Code). meaning (layout_of c) x m) (code_thaw (sides_in c) (length ps) tensor line))
-      (thaw_goes c inputs fits given_fit counts_mean ps r m l tensor (sym (ap regular e) ∙ g))
+      (thaw_goes c (room_of c) inputs fits given_fit counts_mean ps r m l tensor (sym (ap regular e) ∙ g))
 
   abbrev sees : (ps : List ℤ) (r : Run) (m : Machine) → Live (start_of c inputs) ps r m → SeesAll (heads_in c) (seen m) (tensors_of (setting_of c inputs) r)
-  sees ps r m l = all_seen c inputs fits given_fit ps r m l
+  sees ps r m l = all_seen c (room_of c) inputs fits given_fit ps r m l
 
   updated_goes : (tensor : ℕ) (at : List Index) (by : Reduce) (value : Expr) (line : ℕ) → Goes c inputs (s.Update tensor at by value line)
   updated_goes tensor at by value line sc ps vars r m p f long same l g =
@@ -100,8 +101,8 @@ module _ (c : Checked) (inputs : List Storage) (fits : FitHeaders c.program.head
       let small : are_small vars at ≡ true = was_small (are_small vars at) r (good_before checked (after z r) (update_goes_on (setting_of c inputs) tensor zs by z checked) (good (after z r) fine)) in
       let run : after z r ≡ update (setting_of c inputs) tensor zs by z r = ap (λ (b : Bool). update (setting_of c inputs) tensor zs by z (asked_for_small b r)) small in
       let m2 : Machine = meaning_all (layout_of c) (prelude v) m in
-      let known : Valued c inputs sees values_mean ps r v z m2 =
-      value_goes c inputs sees values_mean sc value ps vars r m p (updating_named c sc (length ps) tensor at by value line f) q.reads q.small long same (updating_room c sc (length ps) tensor at by value line f) l in
+      let known : Valued c (room_of c) inputs sees values_mean ps r v z m2 =
+      placed_value c inputs sees values_mean sc value ps vars r m p (updating_named c sc (length ps) tensor at by value line f) q.reads q.small long same (updating_room c sc (length ps) tensor at by value line f) l in
       let within : IsWithin sc (length vars) = subst (IsWithin sc) (sym long) p.within in
       let count_same : Agree (length vars) ps vars = subst (λ (n : ℕ). Agree n ps vars) (sym long) same in
       let agree : Agree (length vars) m2.locals vars = agree_then (length vars) m2.locals ps vars (agree_less (length vars) (length ps) m2.locals ps (let a = p.after in omega (arith, long, a)) known.live.pinned) count_same in
@@ -113,7 +114,7 @@ module _ (c : Checked) (inputs : List Storage) (fits : FitHeaders c.program.head
       ∙ all_append (layout_of c) (prelude v) tail m
       ∙ sym (meaning_seq (layout_of c) tail m2) in
       by_both c inputs ps _ _ _ _ (e ∙ q.is ∙ run) d
-      (update_goes c inputs fits given_fit ps r m2 known.live tensor xs zs places by v.value z known.value (sym (ap regular run) ∙ fine))
+      (update_goes c (room_of c) inputs fits given_fit ps r m2 known.live tensor xs zs places by v.value z known.value (sym (ap regular run) ∙ fine))
 
   pub goings : Cases (Goes c inputs)
   goings = record {

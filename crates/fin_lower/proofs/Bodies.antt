@@ -13,7 +13,8 @@ use Rattle.fin_stage.specs.Staged.{Run, Action, regular, braced, stage_of, stage
 use Rattle.fin_stage.proofs.Onward.{Onward, all_go_on, onward_closed}
 use Rattle.fin_read.specs.Steps.{Agree}
 use Rattle.fin_lower.specs.Lowering.{code_of_stmt, code_of_all}
-use Rattle.fin_lower.specs.Plans.{sides_in, variables_in, layout_of}
+use Rattle.fin_perform.specs.Layouts.{variables_in}
+use Rattle.fin_lower.specs.Plans.{sides_in, layout_of}
 use Rattle.fin_lower.specs.Lowered.{start_of}
 use Rattle.fin_nest.specs.Related.{Live, Related}
 use Rattle.fin_nest.proofs.Still.{all_still}

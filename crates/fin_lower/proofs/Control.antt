@@ -8,7 +8,7 @@ use Rattle.fin_ast.specs.declared.tree.Expr.{Expr}
 use Rattle.fin_ast.specs.declared.tree.Stmt.{Stmt}
 use Rattle.fin_ast.specs.declared.tree.Stmt.TheVariants as s
 use Rattle.fin_ast.specs.Dense.{setting_of, range_of}
-use Rattle.fin_ast.specs.Scope.{Scope, within_loop, within_let}
+use Rattle.fin_ast.specs.Scope.{Scope, within_loop, within_let, is_named_expr}
 use Rattle.fin_ast.specs.Value.{Numbers, value_of}
 use Rattle.fin_ast.proofs.Induction.{AllOf}
 use Rattle.fin_ir.specs.declared.code.Code.{Code}
@@ -19,22 +19,24 @@ use Rattle.fin_ir.specs.Value.{value_in, is_off}
 use Rattle.fin_ir.specs.Meaning.{meaning, meaning_all, for_loop, for_turns}
 use Rattle.fin_ir.proofs.Codes.{meaning_seq, meaning_when, meaning_for_loop, meaning_assign}
 use Rattle.fin_ir.proofs.Values.{value_num}
-use Rattle.fin_stage.specs.Staged.{Run, Action, regular, worked, braced, repeated, tensors_of, stage_all, staging}
+use Rattle.fin_stage.specs.Staged.{Run, Action, regular, worked, braced, repeated, tensors_of, can_read, has_small_indices, stage_all, staging}
 use Rattle.fin_ast.proofs.Acting.{act_block, act_loop, act_cond, act_bind}
 use Rattle.fin_stage.proofs.Onward.{Onward, onward_still, either_goes_on, braced_goes_on, all_go_on}
 use Rattle.fin_read.specs.Steps.{Agree}
 use Rattle.fin_read.specs.Values.{Lowered, value_code, prelude}
 use Rattle.fin_read.specs.Sees.{SeesAll}
-use Rattle.fin_read.specs.Means.{ValuesMean}
-use Rattle.fin_lower.specs.Lowering.{charge_of, move_code, code_of_all}
-use Rattle.fin_lower.specs.Room.{end_of}
-use Rattle.fin_lower.specs.Plans.{heads_in, sides_in, variables_in, layout_of}
+use Rattle.fin_read.specs.Means.{IsWithin, ValuesMean}
+use Rattle.fin_perform.specs.Codes.{charge_of, end_of}
+use Rattle.fin_lower.specs.Lowering.{move_code, code_of_all}
+use Rattle.fin_perform.specs.Layouts.{heads_in, variables_in}
+use Rattle.fin_lower.specs.Plans.{room_of, sides_in, layout_of}
 use Rattle.fin_lower.proofs.Capped.{capped_loop}
 use Rattle.fin_lower.specs.Lowered.{start_of}
 use Rattle.fin_nest.specs.Related.{Live, Related}
 use Rattle.fin_nest.proofs.Pinning.{SameBut, same_but_itself, same_but_set, agree_bound, live_set}
 use Rattle.fin_lower.proofs.Placed.{Placed, BodyFits, loop_placed, let_placed, block_fits, loop_bound, loop_fits, cond_fits, test_named, test_room, bind_bound, bind_fits, value_named, value_room, code_block, code_loop, code_cond, code_bind}
-use Rattle.fin_lower.proofs.Valued.{Asked, asked, all_append, Valued, value_goes}
+use Rattle.fin_nest.proofs.Statements.{all_append}
+use Rattle.fin_perform.proofs.Valued.{Asked, asked, Valued, value_goes}
 use Rattle.fin_lower.proofs.Bodies.{Goes, body_goes}
 use Rattle.fin_lower.proofs.Turns.{TurnGoes, Turned, turns_go}
 use Rattle.fin_lower.proofs.Listing.{reach_least}
@@ -114,6 +116,15 @@ module _ (c : Checked) (inputs : List Storage) where
   -- ---- tests and lets
 
   module _ (sees : (ps : List ℤ) (r : Run) (m : Machine) → Live (start_of c inputs) ps r m → SeesAll (heads_in c) (seen m) (tensors_of (setting_of c inputs) r)) (values : ValuesMean) where
+    -- the value of an expression in its place
+    pub placed_value : (sc : Scope) (e : Expr) (ps : List ℤ) (vars : Numbers) (r : Run) (m : Machine)
+        → Placed c sc (length ps) → is_named_expr e sc ≡ true → can_read e (tensors_of (setting_of c inputs) r) ≡ true → has_small_indices e vars ≡ true
+        → length vars ≡ variables_in c → Agree (variables_in c) ps vars → end_of (value_code (heads_in c) e (length ps)) ≤ (layout_of c).locals → Live (start_of c inputs) ps r m
+        → Valued c (room_of c) inputs sees values ps r (value_code (heads_in c) e (length ps)) (value_of e vars (tensors_of (setting_of c inputs) r)) (meaning_all (layout_of c) (prelude (value_code (heads_in c) e (length ps))) m)
+    placed_value sc e ps vars r m p named can small long same room l =
+        value_goes c (room_of c) inputs sees values sc e ps vars r m (subst (IsWithin sc) (sym long) p.within) (omega (arith, long, p.after)) named can small
+        (subst (λ (n : ℕ). Agree n ps vars) (sym long) same) room l
+
     branch : (ps : List ℤ) (off : Bool) (n n' : Run) (m m' : Machine) → Live (start_of c inputs) ps n m → (regular n' ≡ true → Related (start_of c inputs) ps n' m')
         → regular (if off then n else n') ≡ true
         → Related (start_of c inputs) ps (if off then n else n') (if off then m else m')
@@ -132,8 +143,8 @@ module _ (c : Checked) (inputs : List Storage) where
         let codes : List Code = code_of_all (sides_in c) (length ps) body in
         let m1 : Machine = meaning (layout_of c) (charge_of 1) m in
         let m2 : Machine = meaning_all (layout_of c) (prelude v) m1 in
-        let known : Valued c inputs sees values ps (worked 1 r) v z m2 =
-        value_goes c inputs sees values sc test ps vars (worked 1 r) m1 p (test_named c sc (length ps) test body line last f) q.reads q.small long same (test_room c sc (length ps) test body line last f) (charged c inputs ps r m 1 l) in
+        let known : Valued c (room_of c) inputs sees values ps (worked 1 r) v z m2 =
+        placed_value sc test ps vars (worked 1 r) m1 p (test_named c sc (length ps) test body line last f) q.reads q.small long same (test_room c sc (length ps) test body line last f) (charged c inputs ps r m 1 l) in
         let d = ap (λ (x : Code). meaning (layout_of c) x m) (code_cond (sides_in c) (length ps) test body line last)
         ∙ meaning_seq (layout_of c) _ m
         ∙ all_append (layout_of c) (prelude v) (When v.value (Seq codes) ∷ []) m1
@@ -171,9 +182,9 @@ module _ (c : Checked) (inputs : List Storage) where
         let around : Placed c sc (length base) = wider c sc (length ps) (length base) (omega (arith, long_base)) p in
         let before : Agree (variables_in c) base vars = saved_agree (variables_in c) ps var vars p.after same in
         let enough : end_of (value_code (heads_in c) value (length base)) ≤ (layout_of c).locals = subst (λ (n : ℕ). end_of (value_code (heads_in c) value n) ≤ (layout_of c).locals) (sym long_base) (value_room c sc (length ps) var value body line last f) in
-        let known : Valued c inputs sees values base (worked 1 r) v z m3 =
-        subst (λ (n : ℕ). Valued c inputs sees values base (worked 1 r) (value_code (heads_in c) value n) z (meaning_all (layout_of c) (prelude (value_code (heads_in c) value n)) m2)) long_base
-        (value_goes c inputs sees values sc value base vars (worked 1 r) m2 around (value_named c sc (length ps) var value body line last f) q.reads q.small long before enough begun) in
+        let known : Valued c (room_of c) inputs sees values base (worked 1 r) v z m3 =
+        subst (λ (n : ℕ). Valued c (room_of c) inputs sees values base (worked 1 r) (value_code (heads_in c) value n) z (meaning_all (layout_of c) (prelude (value_code (heads_in c) value n)) m2)) long_base
+        (placed_value sc value base vars (worked 1 r) m2 around (value_named c sc (length ps) var value body line last f) q.reads q.small long before enough begun) in
         let words : List ℤ = slice_set base var z in
         let put : Live (start_of c inputs) words (worked 1 r) m4 =
         subst (Live (start_of c inputs) words (worked 1 r)) (sym (meaning_assign (layout_of c) var v.value m3 ∙ ap (λ (x : ℤ). assign var x m3) known.value))

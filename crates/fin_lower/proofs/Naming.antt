@@ -21,11 +21,16 @@ use Rattle.fin_stage.proofs.Alive.{both}
 use Rattle.fin_read.specs.Values.{Lowered, value_code, prelude}
 use Rattle.fin_read.specs.Means.{ValuesAreNamed}
 use Rattle.fin_read.proofs.Naming.{local_below, num, local}
-use Rattle.fin_lower.specs.Lowering.{begin_of, charge_of, move_code, range_at, code_of_stmt, code_of_all}
-use Rattle.fin_lower.specs.Room.{end_of}
-use Rattle.fin_lower.specs.Plans.{heads_in, sides_in, variables_in, layout_of}
+use Rattle.fin_perform.specs.Codes.{charge_of, end_of}
+use Rattle.fin_lower.specs.Lowering.{begin_of, move_code, range_at, code_of_stmt, code_of_all}
+use Rattle.fin_perform.specs.Layouts.{heads_in, variables_in}
+use Rattle.fin_lower.specs.Plans.{sides_in, layout_of}
 use Rattle.fin_lower.proofs.Placed.{Placed, StmtFits, BodyFits, first_fits, rest_fits, loop_placed, let_placed, block_fits, loop_bound, loop_fits, cond_fits, test_named, test_room, bind_bound, bind_fits, value_named, value_room, code_block, code_loop, code_cond, code_bind}
 use Rattle.fin_lower.proofs.Listing.{reach_least}
+
+-- there is a local for each variable
+pub variables_fit : (c : Checked) → variables_in c ≤ (layout_of c).locals
+variables_fit c = reach_least (heads_in c) (variables_in c) c.program.body
 
 -- ---- one node
 

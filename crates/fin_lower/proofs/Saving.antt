@@ -15,7 +15,8 @@ use Rattle.fin_ir.proofs.Values.{value_local}
 use Rattle.fin_stage.specs.Staged.{Run, worked}
 use Rattle.fin_stage.proofs.Onward.{onward_still}
 use Rattle.fin_read.specs.Steps.{Agree}
-use Rattle.fin_lower.specs.Lowering.{charge_of, move_code}
+use Rattle.fin_perform.specs.Codes.{charge_of}
+use Rattle.fin_lower.specs.Lowering.{move_code}
 use Rattle.fin_lower.specs.Plans.{layout_of}
 use Rattle.fin_lower.specs.Lowered.{start_of}
 use Rattle.fin_nest.specs.Related.{Live, Related}

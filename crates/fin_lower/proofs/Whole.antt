@@ -21,12 +21,13 @@ use Rattle.fin_stage.specs.Sound.{IsSound}
 use Rattle.fin_stage.proofs.Ranges.{ranges_count}
 use Rattle.fin_stage.proofs.Soundness.{accepted_is_sound}
 use Rattle.fin_lower.specs.Lowering.{code_of_all}
-use Rattle.fin_lower.specs.Plans.{sides_in, variables_in, code_of, layout_of}
+use Rattle.fin_perform.specs.Layouts.{variables_in}
+use Rattle.fin_lower.specs.Plans.{room_of, sides_in, code_of, layout_of}
 use Rattle.fin_lower.specs.Lowered.{begun, ended, IsWhole, IsCut, IsLowered, AcceptedIsLowered, start_of}
 use Rattle.fin_nest.specs.Related.{Stand, Related}
 use Rattle.fin_lower.proofs.Placed.{Placed, BodyFits, counted_below}
 use Rattle.fin_lower.proofs.Bodies.{Goes, all_go}
-use Rattle.fin_lower.proofs.Beginning.{begins, inputs_fit}
+use Rattle.fin_perform.proofs.Beginning.{begins, inputs_fit}
 use Rattle.fin_lower.proofs.Naming.{Named, named_seq, all_are_named}
 use Rattle.fin_lower.proofs.Beside.{goings, namings}
 
@@ -64,7 +65,7 @@ module _ (c : Checked) (inputs : List Storage) (accepted : IsAccepted c) (given_
       subst (Related (start_of c inputs) (unbound c.dims) (staged c inputs)) (sym (meaning_seq (layout_of c) (code_of_all (sides_in c) (variables_in c) c.program.body) (begun c inputs)))
       (subst (λ (n : ℕ). Related (start_of c inputs) (unbound c.dims) (staged c inputs) (meaning_all (layout_of c) (code_of_all (sides_in c) n c.program.body) (begun c inputs))) long
       (all_go c inputs c.program.body (all_by_kind (Goes c inputs) (goings c inputs fits given_fit) c.program.body) (outermost c.program.headers) (unbound c.dims) (unbound c.dims) (before_all c.program.headers) (begun c inputs)
-      (subst (Placed c (outermost c.program.headers)) (sym long) placed) (subst (BodyFits c c.program.body (outermost c.program.headers)) (sym long) body_fits) long (λ k lt. refl) (begins c inputs fits given_fit) sound.regular))
+      (subst (Placed c (outermost c.program.headers)) (sym long) placed) (subst (BodyFits c c.program.body (outermost c.program.headers)) (sym long) body_fits) long (λ k lt. refl) (begins c (room_of c) inputs fits given_fit) sound.regular))
 
   regular_at : Related (start_of c inputs) (unbound c.dims) (staged c inputs) (ended c inputs) → (ended c inputs).regular ≡ true
   regular_at (inl l) = l.regular
@@ -80,7 +81,7 @@ module _ (c : Checked) (inputs : List Storage) (accepted : IsAccepted c) (given_
 
   pub lowered : IsLowered c inputs
   lowered = record {
-    fit = inputs_fit c inputs fits given_fit;
+    fit = inputs_fit c (room_of c) inputs fits given_fit;
     regular = record { named = code_named; runs = regular_at related };
     ends = ends_at related;
   }

@@ -8,22 +8,22 @@ use Rattle.fin_ast.specs.declared.header.Header.{Header}
 use Rattle.fin_ast.specs.declared.checked.Checked.{Checked}
 use Rattle.fin_ast.specs.Accepted.{IsAccepted, FitProgram}
 use Rattle.fin_ast.specs.Kinds.{is_output}
-use Rattle.fin_ast.specs.Dense.{setting_of, function_of}
+use Rattle.fin_ast.specs.Dense.{function_of}
 use Rattle.fin_ir.specs.Frozen.{Frozen, canon}
 use Rattle.fin_ir.specs.Machine.{Machine, stored, held}
 use Rattle.fin_ir.specs.Meaning.{meaning}
-use Rattle.fin_ir.specs.Start.{started}
 use Rattle.fin_ir.specs.Regular.{Regular, InputsFit}
 use Rattle.fin_stage.specs.Staged.{coordinate_work}
 use Rattle.fin_nest.specs.Related.{Start}
-use Rattle.fin_lower.specs.Plans.{code_of, layout_of}
+use Rattle.fin_perform.specs.Layouts.{begun_with, start_with}
+use Rattle.fin_lower.specs.Plans.{room_of, code_of, layout_of}
 
 abbrev pub begun : Checked → List Storage → Machine
-begun c inputs = started (layout_of c) inputs
+begun c inputs = begun_with c (room_of c) inputs
 
 -- what its run by stages and the machine of its code begin with
 abbrev pub start_of : Checked → List Storage → Start
-start_of c inputs = record { layout = layout_of c; setting = setting_of c inputs; first = begun c inputs }
+start_of c inputs = start_with c (room_of c) inputs
 
 -- where the run of the code ends
 abbrev pub ended : Checked → List Storage → Machine

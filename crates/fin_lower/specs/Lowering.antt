@@ -1,19 +1,14 @@
 -- The code of statements. A variable has the local of its number; the other locals are free from `next` on, and a
 -- statement leaves each local before it as it was. Each turn of a loop and each statement pays its coordinate work.
 use Rattle.std.specs.Prelude.{ℕ, ◌+◌, min, List, [], ◌∷◌, ◌++◌, map, slice_index_or, pos}
-use Rattle.fin_base.specs.declared.reduce.Reduce.{Reduce}
 use Rattle.fin_ast.specs.declared.header.Header.{Header}
-use Rattle.fin_ast.specs.declared.tree.Index.{Index}
 use Rattle.fin_ast.specs.declared.tree.Stmt.{Stmt, fold-Stmt}
 use Rattle.fin_ast.specs.declared.tree.Stmt.TheOpen.{Stmt-F}
 use Rattle.fin_ir.specs.declared.code.Code.{Code}
-use Rattle.fin_ir.specs.declared.code.Code.TheVariants.{Seq, Assign, When, ForLoop, Update, Declare, Freeze, Thaw, Charge}
-use Rattle.fin_ir.specs.declared.expression.IExpr.{IExpr}
+use Rattle.fin_ir.specs.declared.code.Code.TheVariants.{Seq, Assign, When, ForLoop}
 use Rattle.fin_ir.specs.declared.expression.IExpr.TheVariants.{Num, Local}
-use Rattle.fin_stage.specs.Stages.{work_of_declaration}
-use Rattle.fin_read.specs.Reads.{in_box}
-use Rattle.fin_read.specs.Counts.{count_code}
-use Rattle.fin_read.specs.Values.{Heads, Lowered, format_of, shape_of, index_code, value_code, prelude}
+use Rattle.fin_read.specs.Values.{Heads, Lowered, value_code, prelude}
+use Rattle.fin_perform.specs.Codes.{charge_of, declare_code, freeze_code, thaw_code, update_code}
 
 -- the heads of tensors, and the range of each variable
 pub record Sides : Type 0 where
@@ -22,31 +17,6 @@ pub record Sides : Type 0 where
 
 abbrev pub range_at : Sides → ℕ → ℕ × ℕ
 range_at s var = slice_index_or s.ranges var (0, 0)
-
-abbrev pub charge_of : ℕ → Code
-charge_of n = Charge (Num (pos n))
-
--- ---- statements on tensors
-
-abbrev pub declare_code : Heads → ℕ → Code
-declare_code h tensor = Seq (Declare tensor ∷ charge_of (work_of_declaration (format_of h tensor).levels (shape_of h tensor)) ∷ [])
-
--- the number of values of a tensor that is a storage: a freeze counts when it has become one, a thaw while it still is one
-abbrev pub count_of : Heads → ℕ → IExpr
-count_of h tensor = count_code tensor (format_of h tensor).levels (shape_of h tensor)
-
-abbrev pub freeze_code : Heads → ℕ → Code
-freeze_code h tensor = Seq (Freeze tensor ∷ charge_of 1 ∷ Charge (count_of h tensor) ∷ [])
-
-abbrev pub thaw_code : Heads → ℕ → Code
-thaw_code h tensor = Seq (charge_of 1 ∷ Charge (count_of h tensor) ∷ Thaw tensor ∷ [])
-
--- outside the box there is nothing to update
-abbrev pub update_after : Heads → ℕ → List Index → Reduce → IExpr → List Code
-update_after h tensor at by value = let xs = map index_code at in When (in_box (shape_of h tensor) xs) (Update tensor xs by value) ∷ charge_of 1 ∷ []
-
-abbrev pub update_code : Heads → ℕ → List Index → Reduce → Lowered → Code
-update_code h tensor at by v = Seq (prelude v ++ update_after h tensor at by v.value)
 
 -- ---- statements with bodies
 

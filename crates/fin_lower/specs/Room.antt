@@ -2,11 +2,8 @@
 use Rattle.std.specs.Prelude.{ℕ, ◌+◌, max, List, [], ◌∷◌, map}
 use Rattle.fin_ast.specs.declared.tree.Stmt.{Stmt, fold-Stmt}
 use Rattle.fin_ast.specs.declared.tree.Stmt.TheOpen.{Stmt-F}
-use Rattle.fin_read.specs.Values.{Heads, Lowered, value_code}
-
--- an expression's steps use one local behind those that they leave
-abbrev pub end_of : Lowered → ℕ
-end_of v = v.next + 1
+use Rattle.fin_read.specs.Values.{Heads, value_code}
+use Rattle.fin_perform.specs.Codes.{end_of}
 
 -- the most that any of them needs from `next` on, and at least the locals before it
 abbrev pub most : ℕ → List (ℕ → ℕ) → ℕ

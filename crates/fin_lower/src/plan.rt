@@ -1,6 +1,7 @@
 //! Programs lowered to plans.
 ghost use Rattle.std.specs.Prelude.{◌≡◌, IfOk, OnOk, length, map};
 ghost use Rattle.fin_ast.specs.declared.header.Header.{Header};
+ghost use Rattle.fin_perform.specs.Layouts as layouts;
 ghost use Rattle.fin_lower.specs.Plans as spec;
 
 use crate::statements::{Site, push_all};
@@ -34,7 +35,7 @@ fn code_of(
     variables: u32,
     locals: &mut u32,
 ) -> Result<Code, AllocError>
-    requires variables { variables ≡ spec.variables_in checked.now }
+    requires variables { variables ≡ layouts.variables_in checked.now }
     requires begin { locals.old ≡ variables }
     ensures code { IfOk result (λ c. c ≡ spec.code_of checked.now) }
     ensures locals { OnOk result (locals.new ≡ (spec.layout_of checked.now).locals) }
@@ -86,7 +87,7 @@ fn formats_of(alloc: Global, headers: &[Header]) -> Result<Seq<Format>, AllocErr
 }
 
 fn kinds_of(alloc: Global, headers: &[Header]) -> Result<Seq<u8>, AllocError>
-    ensures { IfOk result (λ ks. ks ≡ map (λ (h : Header). spec.kind_number h.kind) headers.now) }
+    ensures { IfOk result (λ ks. ks ≡ map (λ (h : Header). layouts.kind_number h.kind) headers.now) }
 {
     let mut kinds = Seq::new(alloc);
     for header in headers {
@@ -96,7 +97,7 @@ fn kinds_of(alloc: Global, headers: &[Header]) -> Result<Seq<u8>, AllocError>
 }
 
 fn kind_number(kind: Kind) -> u8
-    ensures { result ≡ spec.kind_number kind }
+    ensures { result ≡ layouts.kind_number kind }
 {
     match kind {
         Kind::Input => 0,

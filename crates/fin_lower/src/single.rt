@@ -3,7 +3,7 @@ ghost use Rattle.std.specs.Prelude.{◌≡◌, ◌≤◌, ◌^◌, ◌++◌, [],
 ghost use Rattle.fin_tensor.specs.Extents.{dense_size};
 ghost use Rattle.fin_stage.specs.Stages as stage;
 ghost use Rattle.fin_lower.specs.Built.{AreBuilt};
-ghost use Rattle.fin_lower.specs.Lowering as spec;
+ghost use Rattle.fin_perform.specs.Codes as spec;
 
 use fin_ast::{Expr, Index};
 use fin_base::Reduce;

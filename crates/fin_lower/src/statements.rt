@@ -2,8 +2,8 @@
 //! local below `next` as it was. `most` tells how many locals are needed so far.
 ghost use Rattle.std.specs.Prelude.{◌≡◌, ◌+◌, ◌≤◌, ◌^◌, ◌++◌, ◌∷◌, [], max, IfOk, OnOk};
 ghost use Rattle.fin_read.specs.Values as values;
+ghost use Rattle.fin_perform.specs.Codes as codes;
 ghost use Rattle.fin_lower.specs.Lowering as spec;
-ghost use Rattle.fin_lower.specs.Room as room;
 ghost use Rattle.fin_lower.specs.Sites as sites;
 
 use crate::single::{Update, declare_code, freeze_code, push_charge, push_update, thaw_code};
@@ -200,7 +200,7 @@ fn lower_cond(
 ) -> Result<Code, AllocError>
     ensures code { let tested = sites.value_at site.now test.now in
         IfOk result (λ c. c ≡ spec.cond_code tested (sites.codes_at site.now body.now)) }
-    ensures reach { let tested = room.end_of (sites.value_at site.now test.now) in
+    ensures reach { let tested = codes.end_of (sites.value_at site.now test.now) in
         OnOk result (most.new ≡ max most.old (max tested (sites.reaches_at site.now body.now))) }
 {
     let mut tested = Items::new(alloc);
@@ -225,7 +225,7 @@ fn lower_bind(
     ensures code { let bound = sites.value_at (sites.behind site.now) value.now in
         let inner = sites.codes_at (sites.behind site.now) body.now in
         IfOk result (λ c. c ≡ spec.bind_code var site.now.next bound inner) }
-    ensures reach { let bound = room.end_of (sites.value_at (sites.behind site.now) value.now) in
+    ensures reach { let bound = codes.end_of (sites.value_at (sites.behind site.now) value.now) in
         OnOk result (most.new ≡ max most.old (max bound (sites.reaches_at (sites.behind site.now) body.now))) }
 {
     let within = behind(site)?;
@@ -249,9 +249,9 @@ fn lower_update(
 ) -> Result<Code, AllocError>
     ensures code { let value = sites.value_at site.now update.now.value.now in
         let at = update.now.at.now in
-        IfOk result (λ c. c ≡ spec.update_code site.now.sides.heads update.now.tensor at update.now.by value) }
+        IfOk result (λ c. c ≡ codes.update_code site.now.sides.heads update.now.tensor at update.now.by value) }
     ensures reach { let value = sites.value_at site.now update.now.value.now in
-        OnOk result (most.new ≡ max most.old (room.end_of value)) }
+        OnOk result (most.new ≡ max most.old (codes.end_of value)) }
 {
     let mut updated = Items::new(alloc);
     let value = push_valued(alloc, &mut updated, site, update.value, most)?;
@@ -269,7 +269,7 @@ fn push_valued(
 ) -> Result<IExpr, AllocError>
     ensures value { IfOk result (λ x. x ≡ (sites.value_at site.now e.now).value) }
     ensures code { OnOk result (into.new ≡ into.old ++ values.prelude (sites.value_at site.now e.now)) }
-    ensures reach { OnOk result (most.new ≡ max most.old (room.end_of (sites.value_at site.now e.now))) }
+    ensures reach { OnOk result (most.new ≡ max most.old (codes.end_of (sites.value_at site.now e.now))) }
 {
     let Value {
         expr,

@@ -1,6 +1,6 @@
 use Rattle.std.proofs.Common.{◌≡◌, take, map}
 use Rattle.fin_ast.specs.declared.header.Header.{Header}
-use Rattle.fin_lower.specs.Plans.{kind_number}
+use Rattle.fin_perform.specs.Layouts.{kind_number}
 use Rattle.fin_lower.proofs.plan.kinds_of.Given as goal
 
 abbrev pub invariant-loop-header : goal.invariant-loop-header

@@ -3,7 +3,7 @@ use Rattle.std.specs.Prelude.{max}
 use Rattle.std.proofs.lemmas.Grind.{common_steps}
 use Rattle.fin_ir.specs.declared.code.Code.TheVariants.{Seq}
 use Rattle.fin_lower.specs.Lowering.{bind_code}
-use Rattle.fin_lower.specs.Room.{end_of}
+use Rattle.fin_perform.specs.Codes.{end_of}
 use Rattle.fin_lower.specs.Sites.{Site, value_at, codes_at, reaches_at}
 use Rattle.fin_lower.proofs.statements.+lowered.Goals as goal
 

@@ -8,7 +8,7 @@ use Rattle.fin_ast.specs.declared.header.Kind.TheVariants.{Input, Output, Local}
 use Rattle.fin_ast.specs.Kinds.{is_input}
 use Rattle.fin_ast.specs.Shaped.{AreShaped}
 use Rattle.fin_read.specs.Values.{heads_of, format_of, shape_of}
-use Rattle.fin_lower.specs.Plans.{kind_number}
+use Rattle.fin_perform.specs.Layouts.{kind_number}
 
 pub header_there : (hs : List Header) (t : ℕ) → t < length hs → (x : Header) × (slice_get hs t ≡ Some x)
 header_there [] t lt = absurd (omega arith)

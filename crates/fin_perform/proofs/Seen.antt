@@ -30,10 +30,9 @@ use Rattle.fin_stage.specs.Fitting.{FunctionFits, StageFits}
 use Rattle.fin_stage.proofs.Fits.{same_fill}
 use Rattle.fin_read.specs.Values.{format_of, shape_of}
 use Rattle.fin_read.specs.Sees.{Sees, SeesAll}
-use Rattle.fin_lower.specs.Plans.{heads_in}
-use Rattle.fin_lower.proofs.Headed.{format_is, builds_there}
-use Rattle.fin_lower.proofs.Given.{given_is_input}
-use Rattle.fin_lower.specs.Lowered.{start_of}
+use Rattle.fin_perform.specs.Layouts.{heads_in, start_with}
+use Rattle.fin_perform.proofs.Headed.{format_is, builds_there}
+use Rattle.fin_perform.proofs.Given.{given_is_input}
 use Rattle.fin_nest.specs.Related.{Stand, Live}
 
 -- ---- one tensor
@@ -90,7 +89,7 @@ frozen_by Absent f e = cc
 frozen_by (Built b) f e = cc
 frozen_by (Frozen format g) f e = (format, cc)
 
-module _ (c : Checked) (inputs : List Storage) (fits : FitHeaders c.program.headers c.dims) (given_fit : FitProgram c inputs) (pins : List ℤ) (r : Run) (m : Machine) (live : Live (start_of c inputs) pins r m) where
+module _ (c : Checked) (room : ℕ) (inputs : List Storage) (fits : FitHeaders c.program.headers c.dims) (given_fit : FitProgram c inputs) (pins : List ℤ) (r : Run) (m : Machine) (live : Live (start_with c room inputs) pins r m) where
   -- nothing is shared
   pub seen_held : (t : ℕ) → seen m t ≡ held m.tensors t
   seen_held t = ap (λ (ts : List Tensor). over (held m.tensors t) (held ts t)) live.shared ∙ own (held m.tensors t) where
@@ -124,7 +123,7 @@ module _ (c : Checked) (inputs : List Storage) (fits : FitHeaders c.program.head
         → Sees (seen m) t (format_of (heads_in c) t).levels (shape_of (heads_in c) t) (format_of (heads_in c) t).fill f
     by_given None n h = let q = frozen_by (stage_at r.stages t) f h in frozen_sees t q.0 f q.1
     by_given (Some g) n h =
-        let q = given_is_input c inputs fits given_fit t g n in
+        let q = given_is_input c room inputs fits given_fit t g n in
         let i = q.3 in
         let there : seen m t ≡ stored (frozen_of i.storage) = seen_held t ∙ live.given t (ap is_none n) ∙ i.tensor in
         let format : i.storage.format ≡ undecorated (format_of (heads_in c) t) = i.format ∙ ap undecorated (sym (format_is c.program.headers c.dims.shapes t q.0 q.1)) in

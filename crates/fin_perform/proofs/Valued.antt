@@ -1,5 +1,5 @@
 -- The steps of an expression, on a machine.
-use Rattle.std.proofs.Common.{◌≡◌, ℕ, ◌+◌, ◌≤◌, Bool, true, false, ◌&&◌, List, [], ◌∷◌, ◌++◌, map, length, refl, sym, ap, ◌∙◌, subst, ℤ, arith}
+use Rattle.std.proofs.Common.{◌≡◌, ℕ, ◌+◌, ◌≤◌, Bool, true, false, ◌&&◌, List, [], ◌∷◌, map, length, refl, sym, ap, ◌∙◌, subst, ℤ, arith}
 use Rattle.std.specs.Prelude.{slice_set}
 use Rattle.fin_tensor.specs.declared.storage.Storage.{Storage}
 use Rattle.fin_ast.specs.declared.checked.Checked.{Checked}
@@ -7,7 +7,6 @@ use Rattle.fin_ast.specs.declared.tree.Expr.{Expr}
 use Rattle.fin_ast.specs.Dense.{Setting, setting_of}
 use Rattle.fin_ast.specs.Scope.{Scope, is_named_expr}
 use Rattle.fin_ast.specs.Value.{Numbers, value_of}
-use Rattle.fin_ir.specs.declared.code.Code.{Code}
 use Rattle.fin_ir.specs.declared.code.Code.TheVariants.{Assign}
 use Rattle.fin_ir.specs.declared.layout.Layout.{Layout}
 use Rattle.fin_ir.specs.Machine.{Machine, seen}
@@ -23,12 +22,10 @@ use Rattle.fin_read.specs.Values.{Lowered, value_code, prelude}
 use Rattle.fin_read.specs.Sees.{SeesAll}
 use Rattle.fin_read.specs.Means.{IsWithin, IsValued, ValuesMean}
 use Rattle.fin_read.proofs.Stepping.{agree_less, agree_then}
-use Rattle.fin_lower.specs.Room.{end_of}
-use Rattle.fin_lower.specs.Plans.{heads_in, variables_in, layout_of}
-use Rattle.fin_lower.specs.Lowered.{start_of}
+use Rattle.fin_perform.specs.Codes.{end_of}
+use Rattle.fin_perform.specs.Layouts.{heads_in, layout_with, start_with}
 use Rattle.fin_nest.specs.Related.{Live}
 use Rattle.fin_nest.proofs.Pinning.{alive, live_locals}
-use Rattle.fin_lower.proofs.Placed.{Placed}
 
 -- ---- runs
 
@@ -72,10 +69,6 @@ asked w e vars after r on g =
 
 -- ---- code
 
-pub all_append : (layout : Layout) (xs ys : List Code) (m : Machine) → meaning_all layout (xs ++ ys) m ≡ meaning_all layout ys (meaning_all layout xs m)
-all_append layout [] ys m = refl
-all_append layout (x ∷ xs) ys m = all_append layout xs ys (meaning layout x m)
-
 assigned : (layout : Layout) (local : ℕ) (value : _) (m : Machine) → m.cut ≡ false → meaning layout (Assign local value) m ≡ record m { locals = slice_set m.locals local (value_in m value) }
 assigned layout local value m e = meaning_assign layout local value m ∙ alive m (record m { locals = slice_set m.locals local (value_in m value) }) e
 
@@ -87,26 +80,24 @@ steps_go layout (x ∷ steps) m e =
 
 -- ---- values
 
-module _ (c : Checked) (inputs : List Storage) (sees : (ps : List ℤ) (r : Run) (m : Machine) → Live (start_of c inputs) ps r m → SeesAll (heads_in c) (seen m) (tensors_of (setting_of c inputs) r)) (values : ValuesMean) where
+module _ (c : Checked) (room : ℕ) (inputs : List Storage) (sees : (ps : List ℤ) (r : Run) (m : Machine) → Live (start_with c room inputs) ps r m → SeesAll (heads_in c) (seen m) (tensors_of (setting_of c inputs) r)) (values : ValuesMean) where
   -- the machine behind the steps of an expression does what the run does, and the expression has its value
   pub record Valued (ps : List ℤ) (r : Run) (v : Lowered) (z : ℤ) (m : Machine) : Type 0 where
-    pub live : Live (start_of c inputs) ps r m
+    pub live : Live (start_with c room inputs) ps r m
     pub value : value_in m v.value ≡ z
 
   pub value_goes : (sc : Scope) (e : Expr) (ps : List ℤ) (vars : Numbers) (r : Run) (m : Machine)
-      → Placed c sc (length ps) → is_named_expr e sc ≡ true → can_read e (tensors_of (setting_of c inputs) r) ≡ true → has_small_indices e vars ≡ true
-      → length vars ≡ variables_in c → Agree (variables_in c) ps vars → end_of (value_code (heads_in c) e (length ps)) ≤ (layout_of c).locals → Live (start_of c inputs) ps r m
-      → Valued ps r (value_code (heads_in c) e (length ps)) (value_of e vars (tensors_of (setting_of c inputs) r)) (meaning_all (layout_of c) (prelude (value_code (heads_in c) e (length ps))) m)
-  value_goes sc e ps vars r m p named can small long same room l =
+      → IsWithin sc (length vars) → length vars ≤ length ps → is_named_expr e sc ≡ true → can_read e (tensors_of (setting_of c inputs) r) ≡ true → has_small_indices e vars ≡ true
+      → Agree (length vars) ps vars → end_of (value_code (heads_in c) e (length ps)) ≤ (layout_with c room).locals → Live (start_with c room inputs) ps r m
+      → Valued ps r (value_code (heads_in c) e (length ps)) (value_of e vars (tensors_of (setting_of c inputs) r)) (meaning_all (layout_with c room) (prelude (value_code (heads_in c) e (length ps))) m)
+  value_goes sc e ps vars r m within after named can small same enough l =
       let v : Lowered = value_code (heads_in c) e (length ps) in
       let z : ℤ = value_of e vars (tensors_of (setting_of c inputs) r) in
-      let within : IsWithin sc (length vars) = subst (IsWithin sc) (sym long) p.within in
-      let after : length vars ≤ length ps = omega (arith, long, p.after) in
-      let agree : Agree (length vars) m.locals vars = agree_then (length vars) m.locals ps vars (agree_less (length vars) (length ps) m.locals ps after l.pinned) (subst (λ (n : ℕ). Agree n ps vars) (sym long) same) in
-      let fits : v.next + 1 ≤ length m.locals = omega (arith, room, l.locals) in
+      let agree : Agree (length vars) m.locals vars = agree_then (length vars) m.locals ps vars (agree_less (length vars) (length ps) m.locals ps after l.pinned) same in
+      let fits : v.next + 1 ≤ length m.locals = omega (arith, enough, l.locals) in
       let q : IsValued (seen m) v (length ps) m.locals z = values (heads_in c) (seen m) (tensors_of (setting_of c inputs) r) sc vars e (length ps) m.locals (sees ps r m l) within named can small after agree fits in
       let ls : List ℤ = stepped (seen m) v.steps m.locals in
-      subst (Valued ps r v z) (sym (steps_go (layout_of c) v.steps m l.cut)) record {
-        live = live_locals (start_of c inputs) ps ps ls r m q.long (agree_then (length ps) ls m.locals ps q.kept l.pinned) l;
+      subst (Valued ps r v z) (sym (steps_go (layout_with c room) v.steps m l.cut)) record {
+        live = live_locals (start_with c room inputs) ps ps ls r m q.long (agree_then (length ps) ls m.locals ps q.kept l.pinned) l;
         value = q.value ls (λ k lt. refl);
       }

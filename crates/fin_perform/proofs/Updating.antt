@@ -27,14 +27,13 @@ use Rattle.fin_stage.proofs.Alive.{right}
 use Rattle.fin_read.specs.Reads.{in_box}
 use Rattle.fin_read.specs.Values.{shape_of}
 use Rattle.fin_read.proofs.Reading.{inside, box_value}
-use Rattle.fin_lower.specs.Lowering.{charge_of}
-use Rattle.fin_lower.specs.Plans.{heads_in, layout_of}
-use Rattle.fin_lower.specs.Lowered.{start_of}
+use Rattle.fin_perform.specs.Codes.{charge_of}
+use Rattle.fin_perform.specs.Layouts.{heads_in, layout_with, start_with}
 use Rattle.fin_nest.specs.Related.{Stand, Live, Related}
-use Rattle.fin_lower.proofs.Seen.{stage_there}
+use Rattle.fin_perform.proofs.Seen.{stage_there}
 use Rattle.fin_nest.proofs.Changed.{paid, number_pays, worked_live, changed_to, changed_live}
 use Rattle.fin_stage.proofs.Trailing.{made_by}
-use Rattle.fin_lower.proofs.Inside.{coordinates_are}
+use Rattle.fin_perform.proofs.Inside.{coordinates_are}
 
 -- an update in the box alone, which is work anywhere
 abbrev pub put_code : List ℕ → ℕ → List IExpr → Reduce → IExpr → Code
@@ -45,7 +44,7 @@ in_order : (b : Bool) (x r : Run) → regular (if b then x else unordered r) ≡
 in_order true x r e = refl
 in_order false x r e = right (r.alive && r.small) false e
 
-module _ (c : Checked) (inputs : List Storage) (fits : FitHeaders c.program.headers c.dims) (given_fit : FitProgram c inputs) (pins : List ℤ) (r : Run) (m : Machine) (live : Live (start_of c inputs) pins r m) (t : ℕ) where
+module _ (c : Checked) (room : ℕ) (inputs : List Storage) (fits : FitHeaders c.program.headers c.dims) (given_fit : FitProgram c inputs) (pins : List ℤ) (r : Run) (m : Machine) (live : Live (start_with c room inputs) pins r m) (t : ℕ) where
   abbrev w : Setting
   w = setting_of c inputs
 
@@ -63,57 +62,57 @@ module _ (c : Checked) (inputs : List Storage) (fits : FitHeaders c.program.head
         ∙ ap (λ (ns : List ℕ). inside (coordinates ns zs)) (sym (FunctionFits.shape fit.1)) ∙ ap inside h
 
     -- outside the box nothing is done
-    put_nothing : coordinates b.function.shape zs ≡ None → Related (start_of c inputs) pins (worked 1 (put_at t b None by v r)) (meaning (layout_of c) (put_code (shape_at w t) t xs by e) m)
+    put_nothing : coordinates b.function.shape zs ≡ None → Related (start_with c room inputs) pins (worked 1 (put_at t b None by v r)) (meaning (layout_with c room) (put_code (shape_at w t) t xs by e) m)
     put_nothing h =
-        let when : meaning (layout_of c) (When (in_box (shape_at w t) xs) (Update t xs by e)) m ≡ m =
-        meaning_when (layout_of c) (in_box (shape_at w t) xs) (Update t xs by e) m ∙ ap (λ (z : ℤ). if is_off z then m else meaning (layout_of c) (Update t xs by e) m) (tested None h) in
-        let ends : meaning (layout_of c) (put_code (shape_at w t) t xs by e) m ≡ paid 1 m =
-        meaning_seq (layout_of c) (When (in_box (shape_at w t) xs) (Update t xs by e) ∷ charge_of 1 ∷ []) m ∙ ap (meaning (layout_of c) (charge_of 1)) when ∙ number_pays (layout_of c) 1 m live.cut in
-        inl (subst (Live (start_of c inputs) pins (worked 1 r)) (sym ends) (worked_live (start_of c inputs) pins r m live 1))
+        let when : meaning (layout_with c room) (When (in_box (shape_at w t) xs) (Update t xs by e)) m ≡ m =
+        meaning_when (layout_with c room) (in_box (shape_at w t) xs) (Update t xs by e) m ∙ ap (λ (z : ℤ). if is_off z then m else meaning (layout_with c room) (Update t xs by e) m) (tested None h) in
+        let ends : meaning (layout_with c room) (put_code (shape_at w t) t xs by e) m ≡ paid 1 m =
+        meaning_seq (layout_with c room) (When (in_box (shape_at w t) xs) (Update t xs by e) ∷ charge_of 1 ∷ []) m ∙ ap (meaning (layout_with c room) (charge_of 1)) when ∙ number_pays (layout_with c room) 1 m live.cut in
+        inl (subst (Live (start_with c room inputs) pins (worked 1 r)) (sym ends) (worked_live (start_with c room inputs) pins r m live 1))
 
     -- one value is changed
     put_one : (cs : List ℕ) → coordinates b.function.shape zs ≡ Some cs → regular (put_at t b (Some cs) by v r) ≡ true
-        → Related (start_of c inputs) pins (worked 1 (put_at t b (Some cs) by v r)) (meaning (layout_of c) (put_code (shape_at w t) t xs by e) m)
+        → Related (start_with c room inputs) pins (worked 1 (put_at t b (Some cs) by v r)) (meaning (layout_with c room) (put_code (shape_at w t) t xs by e) m)
     put_one cs h reg =
         let new : Building = updated b cs (λ old. apply by old v) in
         let stage : Run = with_stage t (Built new) r in
         let n : Machine = changed_to t (building new) m in
         let order : follows b cs ≡ true = in_order (follows b cs) stage r reg in
         let box : is_in_box b.function.shape cs ≡ true = boxes.in_box b.function.shape zs cs h in
-        let updates : meaning (layout_of c) (Update t xs by e) m ≡ n =
-        meaning_update (layout_of c) t xs by e m ∙ ap (λ (ks : List ℤ). machine.update t ks by (value_in m e) m) at ∙ ap (λ (z : ℤ). machine.update t zs by z m) value
+        let updates : meaning (layout_with c room) (Update t xs by e) m ≡ n =
+        meaning_update (layout_with c room) t xs by e m ∙ ap (λ (ks : List ℤ). machine.update t ks by (value_in m e) m) at ∙ ap (λ (z : ℤ). machine.update t zs by z m) value
         ∙ ap (λ (x : Bool). if x then m else machine.update_at t (machine.coordinates zs) by v m) live.cut
         ∙ ap (λ (o : Option (List ℕ)). machine.update_at t o by v m) (coordinates_are b.function.shape zs cs h)
         ∙ ap (λ (x : Tensor). changed_by (record { tensor = t; at = cs; by = by; value = v }) x m) own
         ∙ ap (λ (x : Bool). if x && follows b cs then n else refused m) box ∙ ap (λ (x : Bool). if x then n else refused m) order in
-        let when : meaning (layout_of c) (When (in_box (shape_at w t) xs) (Update t xs by e)) m ≡ n =
-        meaning_when (layout_of c) (in_box (shape_at w t) xs) (Update t xs by e) m
-        ∙ ap (λ (z : ℤ). if is_off z then m else meaning (layout_of c) (Update t xs by e) m) (tested (Some cs) h)
+        let when : meaning (layout_with c room) (When (in_box (shape_at w t) xs) (Update t xs by e)) m ≡ n =
+        meaning_when (layout_with c room) (in_box (shape_at w t) xs) (Update t xs by e) m
+        ∙ ap (λ (z : ℤ). if is_off z then m else meaning (layout_with c room) (Update t xs by e) m) (tested (Some cs) h)
         ∙ updates in
-        let ends : meaning (layout_of c) (put_code (shape_at w t) t xs by e) m ≡ paid 1 n =
-        meaning_seq (layout_of c) (When (in_box (shape_at w t) xs) (Update t xs by e) ∷ charge_of 1 ∷ []) m ∙ ap (meaning (layout_of c) (charge_of 1)) when ∙ number_pays (layout_of c) 1 n live.cut in
+        let ends : meaning (layout_with c room) (put_code (shape_at w t) t xs by e) m ≡ paid 1 n =
+        meaning_seq (layout_with c room) (When (in_box (shape_at w t) xs) (Update t xs by e) ∷ charge_of 1 ∷ []) m ∙ ap (meaning (layout_with c room) (charge_of 1)) when ∙ number_pays (layout_with c room) 1 n live.cut in
         let f : FunctionFits w t b.function = fit.1 in
         let built : StageFits w t (Built new) = (fit.0, record { shape = f.shape; fill = f.fill; cells = keeps_cells b.function cs (apply by (value_at b.function cs) v) f.cells box }) in
-        let lt : t < _ = stage_there c inputs fits given_fit pins r m live t (Built b) is (λ x. cc) in
-        let goes : Live (start_of c inputs) pins stage n = changed_live (start_of c inputs) pins r m live t (Built new) (building new) lt made refl built in
+        let lt : t < _ = stage_there c room inputs fits given_fit pins r m live t (Built b) is (λ x. cc) in
+        let goes : Live (start_with c room inputs) pins stage n = changed_live (start_with c room inputs) pins r m live t (Built new) (building new) lt made refl built in
         let run : worked 1 stage ≡ worked 1 (put_at t b (Some cs) by v r) = ap (λ (x : Bool). worked 1 (if x then stage else unordered r)) (sym order) in
-        inl (subst (Live (start_of c inputs) pins (worked 1 (put_at t b (Some cs) by v r))) (sym ends)
-        (subst (λ (x : Run). Live (start_of c inputs) pins x (paid 1 n)) run (worked_live (start_of c inputs) pins stage n goes 1)))
+        inl (subst (Live (start_with c room inputs) pins (worked 1 (put_at t b (Some cs) by v r))) (sym ends)
+        (subst (λ (x : Run). Live (start_with c room inputs) pins x (paid 1 n)) run (worked_live (start_with c room inputs) pins stage n goes 1)))
 
     put_goes : (o : Option (List ℕ)) → coordinates b.function.shape zs ≡ o → regular (put_at t b o by v r) ≡ true
-        → Related (start_of c inputs) pins (worked 1 (put_at t b o by v r)) (meaning (layout_of c) (put_code (shape_at w t) t xs by e) m)
+        → Related (start_with c room inputs) pins (worked 1 (put_at t b o by v r)) (meaning (layout_with c room) (put_code (shape_at w t) t xs by e) m)
     put_goes None h reg = put_nothing h
     put_goes (Some cs) h reg = put_one cs h reg
 
   pub update_goes : (xs : List IExpr) (zs : List ℤ) → map (value_in m) xs ≡ zs → (by : Reduce) (e : IExpr) (v : ℤ) → value_in m e ≡ v → regular (update w t zs by v r) ≡ true →
-      Related (start_of c inputs) pins (update w t zs by v r) (meaning (layout_of c) (put_code (shape_of (heads_in c) t) t xs by e) m)
+      Related (start_with c room inputs) pins (update w t zs by v r) (meaning (layout_with c room) (put_code (shape_of (heads_in c) t) t xs by e) m)
   update_goes xs zs at by e v value reg =
       let made : is_made w t ≡ true = made_by (is_made w t) (update_at t (stage_at r.stages t) zs by v r) r reg in
       let run : update w t zs by v r ≡ worked 1 (update_at t (stage_at r.stages t) zs by v r) = ap (λ (x : Bool). worked 1 (if x then update_at t (stage_at r.stages t) zs by v r else unalive r)) made in
-      subst (λ (x : Run). Related (start_of c inputs) pins x (meaning (layout_of c) (put_code (shape_at w t) t xs by e) m)) (sym run)
+      subst (λ (x : Run). Related (start_with c room inputs) pins x (meaning (layout_with c room) (put_code (shape_at w t) t xs by e) m)) (sym run)
       (by_stage (stage_at r.stages t) refl made (ap regular (sym run) ∙ reg)) where
         by_stage : (x : Stage) → stage_at r.stages t ≡ x → is_made w t ≡ true → regular (update_at t x zs by v r) ≡ true
-            → Related (start_of c inputs) pins (worked 1 (update_at t x zs by v r)) (meaning (layout_of c) (put_code (shape_at w t) t xs by e) m)
+            → Related (start_with c room inputs) pins (worked 1 (update_at t x zs by v r)) (meaning (layout_with c room) (put_code (shape_at w t) t xs by e) m)
         by_stage Absent h made g = cc
         by_stage (Built b) h made g = put_goes xs zs at by e v value b h made (coordinates b.function.shape zs) refl g
         by_stage (Frozen format f) h made g = cc

@@ -21,18 +21,13 @@ use Rattle.fin_ir.proofs.Fitting.{started_fits}
 use Rattle.fin_stage.specs.Stages.{Stage, Absent}
 use Rattle.fin_stage.specs.Staged.{before_all}
 use Rattle.fin_stage.proofs.Fits.{absent_at, nothing_fits}
-use Rattle.fin_lower.specs.Plans.{kind_number, variables_in, heads_in, layout_of}
-use Rattle.fin_lower.specs.Lowered.{begun, start_of}
-use Rattle.fin_lower.proofs.Listing.{reach_least}
-use Rattle.fin_lower.proofs.Headed.{input_number, shapes_long}
-use Rattle.fin_lower.proofs.Given.{kinds_of}
+use Rattle.fin_perform.specs.Layouts.{kind_number, layout_with, begun_with, start_with}
+use Rattle.fin_perform.specs.Begun.{BegunMachinesStand}
+use Rattle.fin_perform.proofs.Headed.{input_number, shapes_long}
+use Rattle.fin_perform.proofs.Given.{kinds_of}
 use Rattle.fin_nest.specs.Related.{Stand, Live}
 
 -- ---- locals
-
--- there is a local for each variable
-pub variables_fit : (c : Checked) → variables_in c ≤ (layout_of c).locals
-variables_fit c = reach_least (heads_in c) (variables_in c) c.program.body
 
 zeros_at : (count k : ℕ) → slice_index_or (replicate count (pos 0)) k (pos 0) ≡ pos 0
 zeros_at count k =
@@ -84,8 +79,8 @@ boxes_are (x ∷ hs) (n ∷ shapes) a inputs f =
     by_kind x n hs shapes (boxes_are hs shapes a.1) (is_input x.kind) refl inputs f
     ∙ ap (λ (b : Bool). if b then (x.format, n) ∷ input_boxes (kinds_of hs) (map (λ (y : Header). y.format) hs) shapes else input_boxes (kinds_of hs) (map (λ (y : Header). y.format) hs) shapes) (sym (input_number x.kind))
 
-module _ (c : Checked) (inputs : List Storage) (fits : FitHeaders c.program.headers c.dims) (given_fit : FitProgram c inputs) where
-  pub inputs_fit : InputsFit (layout_of c) inputs
+module _ (c : Checked) (room : ℕ) (inputs : List Storage) (fits : FitHeaders c.program.headers c.dims) (given_fit : FitProgram c inputs) where
+  pub inputs_fit : InputsFit (layout_with c room) inputs
   inputs_fit =
       let formats = length-map c.program.headers (λ (x : Header). x.format) in
       record {
@@ -97,17 +92,20 @@ module _ (c : Checked) (inputs : List Storage) (fits : FitHeaders c.program.head
         boxes = boxes_are c.program.headers c.dims.shapes fits.shapes inputs given_fit;
       }
 
-  pub begins : Live (start_of c inputs) (unbound c.dims) (before_all c.program.headers) (begun c inputs)
+  pub begins : Live (start_with c room inputs) (unbound c.dims) (before_all c.program.headers) (begun_with c room inputs)
   begins = record {
     cut = refl;
     regular = refl;
     shared = refl;
     charges = refl;
-    locals = length-replicate (layout_of c).locals (pos 0);
-    pinned = λ k lt. zeros_at (layout_of c).locals k ∙ sym (unbound_at c.dims.ranges k);
-    tensors = (started_fits (layout_of c) inputs inputs_fit).tensors ∙ length-map c.program.headers (λ (x : Header). x.format);
+    locals = length-replicate (layout_with c room).locals (pos 0);
+    pinned = λ k lt. zeros_at (layout_with c room).locals k ∙ sym (unbound_at c.dims.ranges k);
+    tensors = (started_fits (layout_with c room) inputs inputs_fit).tensors ∙ length-map c.program.headers (λ (x : Header). x.format);
     stages = length-map c.program.headers (λ (x : Header). Absent);
-    each = λ t. subst (λ (x : Stage). Stand x (held (begun c inputs).tensors t)) (sym (absent_at c.program.headers t)) tt;
+    each = λ t. subst (λ (x : Stage). Stand x (held (begun_with c room inputs).tensors t)) (sym (absent_at c.program.headers t)) tt;
     given = λ t e. refl;
     fits = nothing_fits (setting_of c inputs) c.program.headers;
   }
+
+pub begun_machines_stand : BegunMachinesStand
+begun_machines_stand c room inputs fits given_fit = record { fit = inputs_fit c room inputs fits given_fit; live = begins c room inputs fits given_fit }

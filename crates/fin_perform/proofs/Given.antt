@@ -18,9 +18,8 @@ use Rattle.fin_ir.specs.Start.{given_if, given, first_tensors}
 use Rattle.fin_stage.specs.Stages.{Stage, Built, stage_at}
 use Rattle.fin_stage.specs.Staged.{Run, is_made}
 use Rattle.fin_nest.specs.Related.{Stand, Live}
-use Rattle.fin_lower.specs.Plans.{kind_number}
-use Rattle.fin_lower.specs.Lowered.{begun, start_of}
-use Rattle.fin_lower.proofs.Headed.{header_there, input_number}
+use Rattle.fin_perform.specs.Layouts.{kind_number, begun_with, start_with}
+use Rattle.fin_perform.proofs.Headed.{header_there, input_number}
 
 -- an input's storage has the header's format and shape
 pub record IsInput (x : Header) (shape : List ℕ) (o : Option TensorFunction) (there : Tensor) : Type 0 where
@@ -107,23 +106,23 @@ given_past (y ∷ hs) (s ∷ inputs) (suc t) e =
       | false ↦ given_past hs (s ∷ inputs) t e
     ]
 
-module _ (c : Checked) (inputs : List Storage) (fits : FitHeaders c.program.headers c.dims) (given_fit : FitProgram c inputs) where
+module _ (c : Checked) (room : ℕ) (inputs : List Storage) (fits : FitHeaders c.program.headers c.dims) (given_fit : FitProgram c inputs) where
   -- where a run begins
   begun_holds : (t : ℕ) (x : Header) → slice_get c.program.headers t ≡ Some x
-      → IsBegun (is_input x.kind) x (slice_index_or c.dims.shapes t []) (made_at (setting_of c inputs).given t) (held (begun c inputs).tensors t)
+      → IsBegun (is_input x.kind) x (slice_index_or c.dims.shapes t []) (made_at (setting_of c inputs).given t) (held (begun_with c room inputs).tensors t)
   begun_holds = begun_from c.program.headers c.dims.shapes fits.shapes inputs 0 inputs refl given_fit
 
   -- a tensor that is given is an input
   pub given_is_input : (t : ℕ) (g : TensorFunction) → made_at (setting_of c inputs).given t ≡ Some g →
-      (x : Header) × (slice_get c.program.headers t ≡ Some x) × (is_input x.kind ≡ true) × IsInput x (slice_index_or c.dims.shapes t []) (made_at (setting_of c inputs).given t) (held (begun c inputs).tensors t)
+      (x : Header) × (slice_get c.program.headers t ≡ Some x) × (is_input x.kind ≡ true) × IsInput x (slice_index_or c.dims.shapes t []) (made_at (setting_of c inputs).given t) (held (begun_with c room inputs).tensors t)
   given_is_input t g e = by_header (slice_get c.program.headers t) refl where
-    by_begun : (x : Header) (b : Bool) → IsBegun b x (slice_index_or c.dims.shapes t []) (made_at (setting_of c inputs).given t) (held (begun c inputs).tensors t) →
-        (b ≡ true) × IsInput x (slice_index_or c.dims.shapes t []) (made_at (setting_of c inputs).given t) (held (begun c inputs).tensors t)
+    by_begun : (x : Header) (b : Bool) → IsBegun b x (slice_index_or c.dims.shapes t []) (made_at (setting_of c inputs).given t) (held (begun_with c room inputs).tensors t) →
+        (b ≡ true) × IsInput x (slice_index_or c.dims.shapes t []) (made_at (setting_of c inputs).given t) (held (begun_with c room inputs).tensors t)
     by_begun x true i = (refl, i)
     by_begun x false i = let n = i.0 in cc
 
     by_header : (o : Option Header) → slice_get c.program.headers t ≡ o →
-        (x : Header) × (slice_get c.program.headers t ≡ Some x) × (is_input x.kind ≡ true) × IsInput x (slice_index_or c.dims.shapes t []) (made_at (setting_of c inputs).given t) (held (begun c inputs).tensors t)
+        (x : Header) × (slice_get c.program.headers t ≡ Some x) × (is_input x.kind ≡ true) × IsInput x (slice_index_or c.dims.shapes t []) (made_at (setting_of c inputs).given t) (held (begun_with c room inputs).tensors t)
     by_header None n = let p = given_past c.program.headers inputs t n in cc
     by_header (Some x) n = let q = by_begun x (is_input x.kind) (begun_holds t x n) in (x, n, q.0, q.1)
 
@@ -132,18 +131,18 @@ module _ (c : Checked) (inputs : List Storage) (fits : FitHeaders c.program.head
   made_is_other t lt e =
       let q = header_there c.program.headers t lt in
       (q.0, q.1, by_begun q.0 (is_input q.0.kind) (begun_holds t q.0 q.1)) where
-        by_begun : (x : Header) (b : Bool) → IsBegun b x (slice_index_or c.dims.shapes t []) (made_at (setting_of c inputs).given t) (held (begun c inputs).tensors t) → b ≡ false
+        by_begun : (x : Header) (b : Bool) → IsBegun b x (slice_index_or c.dims.shapes t []) (made_at (setting_of c inputs).given t) (held (begun_with c room inputs).tensors t) → b ≡ false
         by_begun x true i = let n = ap is_none i.function in cc
         by_begun x false i = refl
 
 -- a tensor that is being built isn't given
-pub built_is_made : (c : Checked) (inputs : List Storage) (pins : List ℤ) (r : Run) (m : Machine) → Live (start_of c inputs) pins r m
+pub built_is_made : (c : Checked) (room : ℕ) (inputs : List Storage) (pins : List ℤ) (r : Run) (m : Machine) → Live (start_with c room inputs) pins r m
     → FitHeaders c.program.headers c.dims → FitProgram c inputs → (t : ℕ) (b : Building) → stage_at r.stages t ≡ Built b → is_made (setting_of c inputs) t ≡ true
-built_is_made c inputs pins r m live fits given_fit t b e = by_given (made_at (setting_of c inputs).given t) refl where
+built_is_made c room inputs pins r m live fits given_fit t b e = by_given (made_at (setting_of c inputs).given t) refl where
   by_given : (o : Option _) → made_at (setting_of c inputs).given t ≡ o → is_made (setting_of c inputs) t ≡ true
   by_given None n = ap is_none n
   by_given (Some g) n =
-      let q = given_is_input c inputs fits given_fit t g n in
+      let q = given_is_input c room inputs fits given_fit t g n in
       let there : held m.tensors t ≡ stored _ = live.given t (ap is_none n) ∙ q.3.tensor in
       let own : held m.tensors t ≡ building b = subst (λ (s : Stage). Stand s (held m.tensors t)) e (live.each t) in
       cc
