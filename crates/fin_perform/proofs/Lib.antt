@@ -1,8 +1,14 @@
 pub mod Beginning
+pub mod Behind
+pub mod Composing
+pub mod Evaluating
 pub mod Given
 pub mod Headed
 pub mod Inside
+pub mod Leaves
 pub mod Putting
+pub mod Scoped
 pub mod Seen
 pub mod Updating
 pub mod Valued
+pub mod Working

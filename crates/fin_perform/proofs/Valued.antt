@@ -72,7 +72,7 @@ asked w e vars after r on g =
 assigned : (layout : Layout) (local : ℕ) (value : _) (m : Machine) → m.cut ≡ false → meaning layout (Assign local value) m ≡ record m { locals = slice_set m.locals local (value_in m value) }
 assigned layout local value m e = meaning_assign layout local value m ∙ alive m (record m { locals = slice_set m.locals local (value_in m value) }) e
 
-steps_go : (layout : Layout) (steps : List Step) (m : Machine) → m.cut ≡ false → meaning_all layout (map assign_of steps) m ≡ record m { locals = stepped (seen m) steps m.locals }
+pub steps_go : (layout : Layout) (steps : List Step) (m : Machine) → m.cut ≡ false → meaning_all layout (map assign_of steps) m ≡ record m { locals = stepped (seen m) steps m.locals }
 steps_go layout [] m e = refl
 steps_go layout (x ∷ steps) m e =
     ap (meaning_all layout (map assign_of steps)) (assigned layout x.local x.value m e)

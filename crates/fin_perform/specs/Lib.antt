@@ -1,3 +1,6 @@
 pub mod Layouts
 pub mod Codes
 pub mod Begun
+pub mod Standing
+pub mod Working
+pub mod Performing

@@ -4,10 +4,17 @@
 //! code of the statements that have no body: a declaration, a freeze and a thaw pay what they store, and an update goes
 //! into its tensor where its coordinates lie in the box.
 //!
-//! The law `begun_machines_stand` says where each run begins: over inputs that fit a program, they fit the layout, and the
-//! first machine does what the run by stages does.
+//! What is performed is said by meaning (`specs/Performing.antt`): codes lead from machines that do what a run does, or one
+//! that trails it, to such machines of what the run by pieces makes of it under what is known. It is said at a place of
+//! the code (`specs/Standing.antt`): its facts hold of each variable in scope that its local has the run's number, and of
+//! any other local nothing is said. Values are those of the expressions as they are written; what is known decides only
+//! what the run by pieces decides by it.
+//!
+//! The laws are clauses of empty functions. `begun_machines_stand` says where each run begins: over inputs that fit a
+//! program, they fit the layout, and the first machine does what the run by stages does. `leaves_perform` is of
+//! statements without bodies, and `nothing_performs` of those of which nothing is left.
 #![tactic(auto)]
 
 mod laws;
 
-pub use laws::begun_machines_stand;
+pub use laws::{begun_machines_stand, leaves_perform, nothing_performs};
