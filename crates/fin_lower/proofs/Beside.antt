@@ -34,6 +34,7 @@ use Rattle.fin_stage.proofs.Alive.{left, right, both, holds_there}
 use Rattle.fin_ast.proofs.Acting.{act_declare, act_freeze, act_thaw, act_update}
 use Rattle.fin_stage.proofs.Onward.{Onward, onward_then, small_goes_on, update_goes_on}
 use Rattle.fin_stage.proofs.Simulating.{good_before}
+use Rattle.fin_stage.proofs.Trailing.{regular_before}
 use Rattle.fin_read.specs.Steps.{Agree}
 use Rattle.fin_read.specs.Reads.{in_box}
 use Rattle.fin_read.specs.Values.{Lowered, shape_of, format_of, index_code, value_code, prelude}
@@ -92,7 +93,7 @@ module _ (c : Checked) (inputs : List Storage) (fits : FitHeaders c.program.head
       let after : ℤ → Run → Run = λ v n. update (setting_of c inputs) tensor zs by v (asked_for_small (are_small vars at) n) in
       let on : (v : ℤ) (n : Run) → Onward n (after v n) = λ v n. onward_then n (asked_for_small (are_small vars at) n) (after v n) (small_goes_on (are_small vars at) n) (update_goes_on (setting_of c inputs) tensor zs by v (asked_for_small (are_small vars at) n)) in
       let e = act_update (staging (setting_of c inputs)) vars r tensor at by value line in
-      let q : Asked (setting_of c inputs) value vars after r = asked (setting_of c inputs) value vars after r on (sym (ap regular e) ∙ g) in
+      let q : Asked (setting_of c inputs) value vars after r = asked (setting_of c inputs) value vars after r (λ v n. regular_before n (after v n) (on v n)) (sym (ap regular e) ∙ g) in
       let v : Lowered = value_code (heads_in c) value (length ps) in
       let z : ℤ = value_of value vars (tensors_of (setting_of c inputs) r) in
       let xs : List IExpr = map index_code at in

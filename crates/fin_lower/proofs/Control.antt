@@ -22,6 +22,7 @@ use Rattle.fin_ir.proofs.Values.{value_num}
 use Rattle.fin_stage.specs.Staged.{Run, Action, regular, worked, braced, repeated, tensors_of, can_read, has_small_indices, stage_all, staging}
 use Rattle.fin_ast.proofs.Acting.{act_block, act_loop, act_cond, act_bind}
 use Rattle.fin_stage.proofs.Onward.{Onward, onward_still, either_goes_on, braced_goes_on, all_go_on}
+use Rattle.fin_stage.proofs.Trailing.{regular_before}
 use Rattle.fin_read.specs.Steps.{Agree}
 use Rattle.fin_read.specs.Values.{Lowered, value_code, prelude}
 use Rattle.fin_read.specs.Sees.{SeesAll}
@@ -137,7 +138,7 @@ module _ (c : Checked) (inputs : List Storage) where
         let after : ℤ → Run → Run = λ v n. if int_eq v (pos 0) then n else a vars n in
         let on : (v : ℤ) (n : Run) → Onward n (after v n) = λ v n. either_goes_on (int_eq v (pos 0)) n n (a vars n) (onward_still n) (braced_goes_on (stage_all (setting_of c inputs) body) (all_go_on (setting_of c inputs) body) vars n) in
         let e = act_cond (staging (setting_of c inputs)) vars r test body line last in
-        let q : Asked (setting_of c inputs) test vars after (worked 1 r) = asked (setting_of c inputs) test vars after (worked 1 r) on (sym (ap regular e) ∙ g) in
+        let q : Asked (setting_of c inputs) test vars after (worked 1 r) = asked (setting_of c inputs) test vars after (worked 1 r) (λ v n. regular_before n (after v n) (on v n)) (sym (ap regular e) ∙ g) in
         let v : Lowered = value_code (heads_in c) test (length ps) in
         let z : ℤ = value_of test vars (tensors_of (setting_of c inputs) (worked 1 r)) in
         let codes : List Code = code_of_all (sides_in c) (length ps) body in
@@ -162,7 +163,7 @@ module _ (c : Checked) (inputs : List Storage) where
         let after : ℤ → Run → Run = λ v n. a (slice_set vars var v) n in
         let on : (v : ℤ) (n : Run) → Onward n (after v n) = λ v n. braced_goes_on (stage_all (setting_of c inputs) body) (all_go_on (setting_of c inputs) body) (slice_set vars var v) n in
         let e = act_bind (staging (setting_of c inputs)) vars r var value body line last in
-        let q : Asked (setting_of c inputs) value vars after (worked 1 r) = asked (setting_of c inputs) value vars after (worked 1 r) on (sym (ap regular e) ∙ g) in
+        let q : Asked (setting_of c inputs) value vars after (worked 1 r) = asked (setting_of c inputs) value vars after (worked 1 r) (λ v n. regular_before n (after v n) (on v n)) (sym (ap regular e) ∙ g) in
         let bound = bind_bound c sc (length ps) var value body line last f in
         let inner : BodyFits c body (within_let sc var) (length ps + 1) = bind_fits c sc (length ps) var value body line last f in
         let low = reach_least (heads_in c) (length ps + 1) body in

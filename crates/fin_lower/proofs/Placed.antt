@@ -16,8 +16,8 @@ use Rattle.fin_ir.specs.declared.code.Code.TheVariants.{Seq}
 use Rattle.fin_stage.proofs.Alive.{left, right}
 use Rattle.fin_read.specs.Means.{IsWithin}
 use Rattle.fin_read.specs.Values.{value_code}
-use Rattle.fin_perform.specs.Codes.{declare_code, freeze_code, thaw_code, update_code, end_of}
-use Rattle.fin_lower.specs.Lowering.{Sides, Coded, range_at, cond_code, bind_code, loop_code, lower_step, code_of_stmt, code_of_all}
+use Rattle.fin_perform.specs.Codes.{declare_code, freeze_code, thaw_code, update_code, cond_code, end_of}
+use Rattle.fin_lower.specs.Lowering.{Sides, Coded, range_at, bind_code, loop_code, lower_step, code_of_stmt, code_of_all}
 use Rattle.fin_lower.specs.Room.{reach_step, reach_of, reach_of_all}
 use Rattle.fin_perform.specs.Layouts.{heads_in, variables_in}
 use Rattle.fin_lower.specs.Plans.{layout_of}

@@ -5,10 +5,10 @@ use Rattle.fin_ast.specs.declared.header.Header.{Header}
 use Rattle.fin_ast.specs.declared.tree.Stmt.{Stmt, fold-Stmt}
 use Rattle.fin_ast.specs.declared.tree.Stmt.TheOpen.{Stmt-F}
 use Rattle.fin_ir.specs.declared.code.Code.{Code}
-use Rattle.fin_ir.specs.declared.code.Code.TheVariants.{Seq, Assign, When, ForLoop}
+use Rattle.fin_ir.specs.declared.code.Code.TheVariants.{Seq, Assign, ForLoop}
 use Rattle.fin_ir.specs.declared.expression.IExpr.TheVariants.{Num, Local}
 use Rattle.fin_read.specs.Values.{Heads, Lowered, value_code, prelude}
-use Rattle.fin_perform.specs.Codes.{charge_of, declare_code, freeze_code, thaw_code, update_code}
+use Rattle.fin_perform.specs.Codes.{charge_of, declare_code, freeze_code, thaw_code, update_code, cond_code}
 
 -- the heads of tensors, and the range of each variable
 pub record Sides : Type 0 where
@@ -19,9 +19,6 @@ abbrev pub range_at : Sides → ℕ → ℕ × ℕ
 range_at s var = slice_index_or s.ranges var (0, 0)
 
 -- ---- statements with bodies
-
-abbrev pub cond_code : Lowered → List Code → Code
-cond_code v body = Seq (charge_of 1 ∷ prelude v ++ When v.value (Seq body) ∷ [])
 
 -- the local takes what the other has
 abbrev pub move_code : ℕ → ℕ → Code

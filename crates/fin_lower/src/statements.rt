@@ -199,7 +199,7 @@ fn lower_cond(
     most: &mut u32,
 ) -> Result<Code, AllocError>
     ensures code { let tested = sites.value_at site.now test.now in
-        IfOk result (λ c. c ≡ spec.cond_code tested (sites.codes_at site.now body.now)) }
+        IfOk result (λ c. c ≡ codes.cond_code tested (sites.codes_at site.now body.now)) }
     ensures reach { let tested = codes.end_of (sites.value_at site.now test.now) in
         OnOk result (most.new ≡ max most.old (max tested (sites.reaches_at site.now body.now))) }
 {

@@ -18,23 +18,25 @@ use Rattle.fin_ir.specs.Value.{value_in}
 use Rattle.fin_ir.specs.Meaning.{meaning_all}
 use Rattle.fin_ir.proofs.Values.{value_local}
 use Rattle.fin_stage.specs.Stages.{Stage, Absent, Built, Frozen, stage_at, frozen_in}
-use Rattle.fin_stage.specs.Staged.{Run, tensors_of, can_read, has_small_indices, with_value, unalive, regular}
+use Rattle.fin_stage.specs.Staged.{Run, tensors_of, can_read, has_small_indices, asked_to_read, asked_for_small, with_value, unalive, regular}
 use Rattle.fin_stage.specs.Trailing.{StageTrails, RunTrails}
-use Rattle.fin_stage.proofs.Onward.{Onward, value_goes_on}
-use Rattle.fin_stage.proofs.Trailing.{regular_before}
+use Rattle.fin_stage.proofs.Onward.{asked_goes_on}
 use Rattle.fin_read.specs.Steps.{Agree, stepped}
 use Rattle.fin_read.specs.Values.{Lowered, value_code, prelude}
 use Rattle.fin_read.specs.Means.{IsWithin}
 use Rattle.fin_read.proofs.Equations.{code_grows}
 use Rattle.fin_read.proofs.Valuing.{values_mean}
 use Rattle.fin_nest.specs.Related.{Start, Live, Related}
-use Rattle.fin_nest.specs.Senses.{Behind, runs}
-use Rattle.fin_nest.specs.Performs.{Fact, Place, Ready, Left, Performs}
+use Rattle.fin_nest.specs.Senses.{Behind, runs, Advances}
+use Rattle.fin_nest.proofs.Senses.{advances}
+use Rattle.fin_nest.specs.Performs.{Fact, Place, Ready, Left}
 use Rattle.fin_nest.proofs.Pinning.{live_locals, live_less}
 use Rattle.fin_nest.proofs.Statements.{hold_on, all_append}
 use Rattle.fin_perform.specs.Codes.{end_of}
 use Rattle.fin_perform.specs.Layouts.{heads_in, layout_with, start_with}
 use Rattle.fin_perform.specs.Standing.{StandsIn}
+use Rattle.fin_perform.specs.Performing.{Does}
+use Rattle.fin_perform.proofs.Composing.{advances_then}
 use Rattle.fin_perform.proofs.Behind.{code_from, stepped_long, stepped_kept}
 use Rattle.fin_perform.proofs.Scoped.{Alike, alike}
 use Rattle.fin_perform.proofs.Seen.{all_seen}
@@ -131,27 +133,33 @@ module _ (c : Checked) (room : ℕ) (inputs : List Storage) (fits : FitHeaders c
 
     -- ---- what goes on with the value
 
-    module _ (rest : List Code) (after : ℤ → Run → Run) (on : (z : ℤ) (r : Run) → Onward r (after z r)) (goes : (z : ℤ) → Performs layout (runs s) (knowing p (v.value, z)) rest (after z)) where
+    module _ (rest : List Code) (after : ℤ → Run → Run) (goes : (z : ℤ) → Does c room inputs (knowing p (v.value, z)) rest (after z)) where
       ready_behind : (m m' : Machine) (z : ℤ) → Ready layout m p → Left m m' p → m'.cut ≡ false → value_in m' v.value ≡ z → Ready layout m' (knowing p (v.value, z))
       ready_behind m m' z ready l e value = record { live = e; locals = l.long ∙ ready.locals; facts = (value, hold_on p p.facts m m' l e stands.stay ready.facts) }
 
       whole : (m : Machine) → m.cut ≡ false → meaning_all layout (prelude v ++ rest) m ≡ meaning_all layout rest (stepped_on m)
       whole m e = all_append layout (prelude v) rest m ∙ ap (meaning_all layout rest) (steps_go layout v.steps m e)
 
+      value_advances : (r : Run) → Advances r (with_value w e vars after r)
+      value_advances r =
+          let z : ℤ = value_of e vars (tensors_of w r) in
+          let ready : Run = asked_for_small (has_small_indices e vars) (asked_to_read (can_read e (tensors_of w r)) r) in
+          advances_then r ready (after z ready) (advances r ready (asked_goes_on w e vars r)) ((goes z).advances ready)
+
       value_leaves : (r : Run) (m : Machine) → Ready layout m p → Left m (meaning_all layout (prelude v ++ rest) m) p
       value_leaves r m ready =
           let m' : Machine = stepped_on m in
           let z : ℤ = value_in m' v.value in
           let a : Left m m' p = steps_leave m in
-          let b = (goes z).leaves (unalive r) m' (ready_behind m m' z ready a ready.live refl) (nothing_said s r m') in
+          let b = (goes z).performs.leaves (unalive r) m' (ready_behind m m' z ready a ready.live refl) (nothing_said s r m') in
           subst (λ (x : Machine). Left m x p) (sym (whole m ready.live)) (left_both m m' (meaning_all layout rest m') p a (record { long = b.long; kept = b.kept; steady = b.steady }) ready.live)
 
       value_does : (r : Run) (m : Machine) → Ready layout m p → (runs s).stands r m → regular (with_value w e vars after r) ≡ true → Behind s (with_value w e vars after r) (meaning_all layout (prelude v ++ rest) m)
       value_does r m ready h g =
           let m' : Machine = stepped_on m in
           let z : ℤ = value_of e vars (tensors_of w r) in
-          let k : Behind s r m = h (regular_before r (with_value w e vars after r) (value_goes_on w e vars after on r) g) in
-          let q : Asked w e vars after r = asked w e vars after r on g in
+          let k : Behind s r m = h ((value_advances r).before g) in
+          let q : Asked w e vars after r = asked w e vars after r (λ y n. ((goes y).advances n).before) g in
           let same : tensors_of w r ≡ tensors_of w k.run = same_tensors w r k.run k.trails in
           let got : Has k.run (meaning_all layout (prelude v) m) (value_of e vars (tensors_of w k.run)) = has_value k.run m ready (living s k.run m ready.live k.related) (sym (ap (can_read e) same) ∙ q.reads) q.small in
           let there : Has k.run m' z =
@@ -159,7 +167,7 @@ module _ (c : Checked) (room : ℕ) (inputs : List Storage) (fits : FitHeaders c
           let began : (runs s).stands r m' = λ d. record { run = k.run; trails = k.trails; related = inl there.live } in
           subst (λ (x : Run). Behind s x (meaning_all layout (prelude v ++ rest) m)) (sym q.is)
           (subst (Behind s (after z r)) (sym (whole m ready.live))
-          ((goes z).does r m' (ready_behind m m' z ready (steps_leave m) ready.live there.value) began (sym (ap regular q.is) ∙ g)))
+          ((goes z).performs.does r m' (ready_behind m m' z ready (steps_leave m) ready.live there.value) began (sym (ap regular q.is) ∙ g)))
 
-      pub performs_with_value : Performs layout (runs s) p (prelude v ++ rest) (with_value w e vars after)
-      performs_with_value = record { does = value_does; leaves = λ r m ready h. value_leaves r m ready }
+      pub with_value_does : Does c room inputs p (prelude v ++ rest) (with_value w e vars after)
+      with_value_does = record { performs = record { does = value_does; leaves = λ r m ready h. value_leaves r m ready }; advances = value_advances }

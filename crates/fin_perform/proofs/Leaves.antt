@@ -51,7 +51,7 @@ use Rattle.fin_perform.specs.Codes.{declare_code, freeze_code, thaw_code, update
 use Rattle.fin_perform.specs.Layouts.{heads_in, layout_with, start_with}
 use Rattle.fin_perform.specs.Standing.{StandsIn}
 use Rattle.fin_perform.specs.Working.{run_of}
-use Rattle.fin_perform.specs.Performing.{DoesStmt, NothingPerforms, LeafPerforms, LeavesPerform}
+use Rattle.fin_perform.specs.Performing.{Does, DoesStmt, NothingPerforms, LeafPerforms, LeavesPerform}
 use Rattle.fin_perform.proofs.Composing.{does_as, seq_does, nothing_does}
 use Rattle.fin_perform.proofs.Working.{run_left, nothing_runs}
 use Rattle.fin_simp.specs.Numbered.{Here}
@@ -60,7 +60,7 @@ use Rattle.fin_simp.specs.Work.{World, Worked, work_step, world_of}
 use Rattle.fin_simp.proofs.Equations.{at_declare, at_freeze, at_thaw, at_update}
 use Rattle.fin_ast.specs.declared.tree.Stmt.TheOpen.{Stmt-F}
 use Rattle.fin_ast.proofs.Nodes.{of_declare, of_update}
-use Rattle.fin_perform.proofs.Evaluating.{knowing, words, words_long, words_agree, words_same, performs_with_value}
+use Rattle.fin_perform.proofs.Evaluating.{knowing, words, words_long, words_agree, words_same, with_value_does}
 use Rattle.fin_perform.proofs.Putting.{declare_goes, freeze_goes, thaw_goes}
 use Rattle.fin_perform.proofs.Scoped.{places_same, small_same}
 use Rattle.fin_perform.proofs.Updating.{update_goes}
@@ -206,8 +206,8 @@ module _ (c : Checked) (room : ℕ) (inputs : List Storage) (fits : FitHeaders c
           (λ m ready. keeps_left t m (meaning_all layout codes m) q loose (all_keep layout t codes (put_keeps layout t _ xs by v.value, (charge_keeps layout t _, tt)) m)))
 
       -- an update, with the steps of its value before it
-      put_in : Performs layout (runs start) p (prelude v ++ update_after (heads_in c) t at by v.value) (leaf w (acts.Update t at by e) vars)
-      put_in = performs_with_value c room inputs fits given_fit sc vars p stands e named enough (update_after (heads_in c) t at by v.value) after after_goes_on put_performs
+      put_in : Does c room inputs p (prelude v ++ update_after (heads_in c) t at by v.value) (leaf w (acts.Update t at by e) vars)
+      put_in = with_value_does c room inputs fits given_fit sc vars p stands e named enough (update_after (heads_in c) t at by v.value) after (λ z. record { performs = put_performs z; advances = λ r. advances r (after z r) (after_goes_on z r) })
 
 -- ---- by pieces
 
@@ -245,7 +245,7 @@ module _ (c : Checked) (room : ℕ) (inputs : List Storage) (sc : Scope) (vars :
         let v : Lowered = value_code (heads_in c) value p.next in
         let codes : List Code = prelude v ++ update_after (heads_in c) t at by v.value in
         let plain = leaf_does codes x h m (acts.Update t at by value) (λ r. run_left world x h (Stmt-F.Update t at by value line) (at_update Worked (work_step world) t at by value line h) m vars r some)
-        (put_in c room inputs fits given_fit sc vars p stands t loose at by value indices (right (is_access sc t at) (is_named_expr value sc) named_both) enough) in
+        (put_in c room inputs fits given_fit sc vars p stands t loose at by value indices (right (is_access sc t at) (is_named_expr value sc) named_both) enough).performs in
         seq_does c room inputs p codes (run_of world x h m vars) plain;
   }
 

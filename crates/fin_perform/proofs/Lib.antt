@@ -1,11 +1,13 @@
 pub mod Beginning
 pub mod Behind
+pub mod Bodies
 pub mod Composing
 pub mod Evaluating
 pub mod Given
 pub mod Headed
 pub mod Inside
 pub mod Leaves
+pub mod Lets
 pub mod Putting
 pub mod Scoped
 pub mod Seen

@@ -14,8 +14,7 @@ use Rattle.fin_ir.specs.Value.{value_in}
 use Rattle.fin_ir.specs.Meaning.{meaning, meaning_all}
 use Rattle.fin_ir.proofs.Codes.{meaning_assign}
 use Rattle.fin_stage.specs.Staged.{Run, tensors_of, can_read, has_small_indices, asked_to_read, asked_for_small, with_value, regular}
-use Rattle.fin_stage.proofs.Onward.{Onward}
-use Rattle.fin_stage.proofs.Simulating.{Good, good_before, small_good}
+use Rattle.fin_stage.proofs.Simulating.{Good, small_good}
 use Rattle.fin_stage.proofs.Alive.{left, right}
 use Rattle.fin_read.specs.Steps.{Step, stepped, assign_of, Agree}
 use Rattle.fin_read.specs.Values.{Lowered, value_code, prelude}
@@ -50,15 +49,15 @@ pub record Asked (w : Setting) (e : Expr) (vars : Numbers) (after : ℤ → Run 
   pub small : has_small_indices e vars ≡ true
   pub is : with_value w e vars after r ≡ after (value_of e vars (tensors_of w r)) r
 
-pub asked : (w : Setting) (e : Expr) (vars : Numbers) (after : ℤ → Run → Run) (r : Run) → ((v : ℤ) (n : Run) → Onward n (after v n)) → regular (with_value w e vars after r) ≡ true
+pub asked : (w : Setting) (e : Expr) (vars : Numbers) (after : ℤ → Run → Run) (r : Run) → ((v : ℤ) (n : Run) → regular (after v n) ≡ true → regular n ≡ true) → regular (with_value w e vars after r) ≡ true
     → Asked w e vars after r
-asked w e vars after r on g =
+asked w e vars after r before g =
     let v : ℤ = value_of e vars (tensors_of w r) in
     let can : Bool = can_read e (tensors_of w r) in
     let few : Bool = has_small_indices e vars in
     let reads : Run = asked_to_read can r in
     let ready : Run = asked_for_small few reads in
-    let fine : Good ready = good_before ready (after v ready) (on v ready) (good (after v ready) g) in
+    let fine : Good ready = good ready (before v ready g) in
     let small : few ≡ true = was_small few reads fine in
     let able : can ≡ true = read_good can r (small_good w few reads fine) in
     record {
@@ -69,7 +68,7 @@ asked w e vars after r on g =
 
 -- ---- code
 
-assigned : (layout : Layout) (local : ℕ) (value : _) (m : Machine) → m.cut ≡ false → meaning layout (Assign local value) m ≡ record m { locals = slice_set m.locals local (value_in m value) }
+pub assigned : (layout : Layout) (local : ℕ) (value : _) (m : Machine) → m.cut ≡ false → meaning layout (Assign local value) m ≡ record m { locals = slice_set m.locals local (value_in m value) }
 assigned layout local value m e = meaning_assign layout local value m ∙ alive m (record m { locals = slice_set m.locals local (value_in m value) }) e
 
 pub steps_go : (layout : Layout) (steps : List Step) (m : Machine) → m.cut ≡ false → meaning_all layout (map assign_of steps) m ≡ record m { locals = stepped (seen m) steps m.locals }

@@ -1,9 +1,9 @@
--- The code of statements without bodies.
-use Rattle.std.specs.Prelude.{ℕ, ◌+◌, List, [], ◌∷◌, ◌++◌, map, pos}
+-- The code of statements without bodies, and round the codes of bodies.
+use Rattle.std.specs.Prelude.{ℕ, ◌+◌, List, [], ◌∷◌, ◌++◌, map, ℤ, pos}
 use Rattle.fin_base.specs.declared.reduce.Reduce.{Reduce}
 use Rattle.fin_ast.specs.declared.tree.Index.{Index}
 use Rattle.fin_ir.specs.declared.code.Code.{Code}
-use Rattle.fin_ir.specs.declared.code.Code.TheVariants.{Seq, When, Update, Declare, Freeze, Thaw, Charge}
+use Rattle.fin_ir.specs.declared.code.Code.TheVariants.{Seq, Assign, When, Update, Declare, Freeze, Thaw, Charge}
 use Rattle.fin_ir.specs.declared.expression.IExpr.{IExpr}
 use Rattle.fin_ir.specs.declared.expression.IExpr.TheVariants.{Num}
 use Rattle.fin_stage.specs.Stages.{work_of_declaration}
@@ -33,6 +33,21 @@ update_after h tensor at by value = let xs = map index_code at in When (in_box (
 
 abbrev pub update_code : Heads → ℕ → List Index → Reduce → Lowered → Code
 update_code h tensor at by v = Seq (prelude v ++ update_after h tensor at by v.value)
+
+-- ---- statements with bodies
+
+abbrev pub cond_code : Lowered → List Code → Code
+cond_code v body = Seq (charge_of 1 ∷ prelude v ++ When v.value (Seq body) ∷ [])
+
+-- a let of a literal
+abbrev pub literal_code : ℕ → ℤ → List Code → Code
+literal_code var n body = Seq (Assign var (Num n) ∷ body)
+
+-- the variable keeps its local's word behind the body, since no code behind it asks for what was there before
+abbrev pub let_code : ℕ → Lowered → List Code → Code
+let_code var v body = Seq (charge_of 1 ∷ prelude v ++ Assign var v.value ∷ body)
+
+-- ---- room
 
 -- an expression's steps use one local behind those that they leave
 abbrev pub end_of : Lowered → ℕ

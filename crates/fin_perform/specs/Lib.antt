@@ -4,3 +4,4 @@ pub mod Begun
 pub mod Standing
 pub mod Working
 pub mod Performing
+pub mod Bodies

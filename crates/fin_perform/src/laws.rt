@@ -1,5 +1,6 @@
 //! What the code of a program's statements performs.
 ghost use Rattle.fin_perform.specs.Begun.{BegunMachinesStand};
+ghost use Rattle.fin_perform.specs.Bodies.{BodiesPerform, TestsPerform, LetsPerform};
 ghost use Rattle.fin_perform.specs.Performing.{NothingPerforms, LeavesPerform};
 
 /// Over inputs that fit a program they fit its layout, with any number of locals, and the first machine does what the run
@@ -17,4 +18,21 @@ pub fn nothing_performs()
 /// where the variables in scope have the run's numbers.
 pub fn leaves_perform()
     ensures { LeavesPerform }
+{}
+
+/// Codes of statements perform a body one after another; and a block, and what is chosen by a test that is known, as their
+/// bodies' codes do.
+pub fn bodies_perform()
+    ensures { BodiesPerform }
+{}
+
+/// A test that is asked pays 1, and its body's codes stand where its value isn't 0.
+pub fn tests_perform()
+    ensures { TestsPerform }
+{}
+
+/// A let of a literal puts it into its variable's local, and any other pays 1 and puts its value there; behind it stand the
+/// body's codes.
+pub fn lets_perform()
+    ensures { LetsPerform }
 {}

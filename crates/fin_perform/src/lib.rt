@@ -2,7 +2,8 @@
 //!
 //! The code is over the program's tensors and any number of locals (`specs/Layouts.antt`). `specs/Codes.antt` has the
 //! code of the statements that have no body: a declaration, a freeze and a thaw pay what they store, and an update goes
-//! into its tensor where its coordinates lie in the box.
+//! into its tensor where its coordinates lie in the box. Round a body's code stands a test or a let. A let's variable keeps
+//! its local behind the body, since no code behind it asks for the word that was there.
 //!
 //! What is performed is said by meaning (`specs/Performing.antt`): codes lead from machines that do what a run does, or one
 //! that trails it, to such machines of what the run by pieces makes of it under what is known. It is said at a place of
@@ -12,9 +13,13 @@
 //!
 //! The laws are clauses of empty functions. `begun_machines_stand` says where each run begins: over inputs that fit a
 //! program, they fit the layout, and the first machine does what the run by stages does. `leaves_perform` is of
-//! statements without bodies, and `nothing_performs` of those of which nothing is left.
+//! statements without bodies, and `nothing_performs` of those of which nothing is left. `bodies_perform`, `tests_perform`
+//! and `lets_perform` put the codes of a body together, from what each of its statements performs.
 #![tactic(auto)]
 
 mod laws;
 
-pub use laws::{begun_machines_stand, leaves_perform, nothing_performs};
+pub use laws::{
+    begun_machines_stand, bodies_perform, leaves_perform, lets_perform, nothing_performs,
+    tests_perform,
+};
