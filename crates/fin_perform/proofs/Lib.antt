@@ -11,6 +11,7 @@ pub mod Lets
 pub mod Putting
 pub mod Scoped
 pub mod Seen
+pub mod Standing
 pub mod Updating
 pub mod Valued
 pub mod Working

@@ -5,3 +5,4 @@ pub mod Standing
 pub mod Working
 pub mod Performing
 pub mod Bodies
+pub mod Inside

@@ -1,6 +1,7 @@
 //! What the code of a program's statements performs.
 ghost use Rattle.fin_perform.specs.Begun.{BegunMachinesStand};
 ghost use Rattle.fin_perform.specs.Bodies.{BodiesPerform, TestsPerform, LetsPerform};
+ghost use Rattle.fin_perform.specs.Inside.{PlacesInside};
 ghost use Rattle.fin_perform.specs.Performing.{NothingPerforms, LeavesPerform};
 
 /// Over inputs that fit a program they fit its layout, with any number of locals, and the first machine does what the run
@@ -35,4 +36,9 @@ pub fn tests_perform()
 /// body's codes.
 pub fn lets_perform()
     ensures { LetsPerform }
+{}
+
+/// A place with the number of one more variable stands in the scope of a loop or a let of it.
+pub fn places_inside()
+    ensures { PlacesInside }
 {}

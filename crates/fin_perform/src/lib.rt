@@ -21,5 +21,5 @@ mod laws;
 
 pub use laws::{
     begun_machines_stand, bodies_perform, leaves_perform, lets_perform, nothing_performs,
-    tests_perform,
+    places_inside, tests_perform,
 };
