@@ -71,11 +71,11 @@ closed_behind s b r m k = record {
   related = related_on s [] [] k.run (closed b k.run) m (onward_closed b k.run) k.related (λ l. live_closed s b [] k.run m (onward_closed b k.run) l);
 }
 
--- one more behind the others
-turns_last : (w : World) (xs : List Stmt) (x : Stmt) (h : Here) (m : Marks) (vars : Numbers) (r : Run)
-    → turns_of w (xs ++ x ∷ []) h m vars r ≡ run_of w x (past_all (map past_stmt xs) h) m vars (turns_of w xs h m vars r)
-turns_last w [] x h m vars r = refl
-turns_last w (y ∷ xs) x h m vars r = turns_last w xs x (past_stmt y h) m vars (run_of w y h m vars r)
+-- some behind others
+pub turns_joined : (w : World) (xs ys : List Stmt) (h : Here) (m : Marks) (vars : Numbers) (r : Run)
+    → turns_of w (xs ++ ys) h m vars r ≡ turns_of w ys (past_all (map past_stmt xs) h) m vars (turns_of w xs h m vars r)
+turns_joined w [] ys h m vars r = refl
+turns_joined w (y ∷ xs) ys h m vars r = turns_joined w xs ys (past_stmt y h) m vars (run_of w y h m vars r)
 
 module _ (c : Checked) (room : ℕ) (inputs : List Storage) (p : Place) where
   abbrev world : World
@@ -115,7 +115,7 @@ module _ (c : Checked) (room : ℕ) (inputs : List Storage) (p : Place) where
       next = λ x xs h cs ds stay a b. both_do c room inputs p cs ds (run_of world x h m vars) (turns_of world xs (past_stmt x h) m vars) stay a b;
       last = λ xs x h cs ds stay a b.
           let g : Run → Run = run_of world x (past_all (map past_stmt xs) h) m vars in
-          does_as c room inputs p (cs ++ ds) (turns_of world (xs ++ x ∷ []) h m vars) (λ r. g (turns_of world xs h m vars r)) (turns_last world xs x h m vars)
+          does_as c room inputs p (cs ++ ds) (turns_of world (xs ++ x ∷ []) h m vars) (λ r. g (turns_of world xs h m vars r)) (turns_joined world xs (x ∷ []) h m vars)
           (both_do c room inputs p cs ds (turns_of world xs h m vars) g stay a b);
       body = λ xs h cs d. body_does xs h m vars cs d;
       block = λ xs line last h cs some d.

@@ -8,10 +8,12 @@ pub mod Headed
 pub mod Inside
 pub mod Leaves
 pub mod Lets
+pub mod Meanings
 pub mod Putting
 pub mod Scoped
 pub mod Seen
 pub mod Standing
+pub mod Suiting
 pub mod Updating
 pub mod Valued
 pub mod Working

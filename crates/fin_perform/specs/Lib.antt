@@ -6,3 +6,5 @@ pub mod Working
 pub mod Performing
 pub mod Bodies
 pub mod Inside
+pub mod Places
+pub mod Meanings

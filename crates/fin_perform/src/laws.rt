@@ -2,6 +2,7 @@
 ghost use Rattle.fin_perform.specs.Begun.{BegunMachinesStand};
 ghost use Rattle.fin_perform.specs.Bodies.{BodiesPerform, TestsPerform, LetsPerform};
 ghost use Rattle.fin_perform.specs.Inside.{PlacesInside};
+ghost use Rattle.fin_perform.specs.Meanings.{MeaningsCompose};
 ghost use Rattle.fin_perform.specs.Performing.{NothingPerforms, LeavesPerform};
 
 /// Over inputs that fit a program they fit its layout, with any number of locals, and the first machine does what the run
@@ -41,4 +42,10 @@ pub fn lets_perform()
 /// A place with the number of one more variable stands in the scope of a loop or a let of it.
 pub fn places_inside()
     ensures { PlacesInside }
+{}
+
+/// Codes that mean the parts of statements, wherever they may stand, make codes that mean the whole: of bodies, of
+/// statements without bodies, and of blocks, tests and lets.
+pub fn meanings_compose()
+    ensures { MeaningsCompose }
 {}

@@ -14,12 +14,15 @@
 //! The laws are clauses of empty functions. `begun_machines_stand` says where each run begins: over inputs that fit a
 //! program, they fit the layout, and the first machine does what the run by stages does. `leaves_perform` is of
 //! statements without bodies, and `nothing_performs` of those of which nothing is left. `bodies_perform`, `tests_perform`
-//! and `lets_perform` put the codes of a body together, from what each of its statements performs.
+//! and `lets_perform` put the codes of a body together, from what each of its statements performs. `meanings_compose` says
+//! the same of codes that mean statements wherever they may stand (`specs/Meanings.antt`), from a first free local on: at
+//! each place that suits the statement (`specs/Places.antt`), over any inputs, with at least as many locals as they need.
+//! A loop's code that means its loop fits in beside them.
 #![tactic(auto)]
 
 mod laws;
 
 pub use laws::{
-    begun_machines_stand, bodies_perform, leaves_perform, lets_perform, nothing_performs,
-    places_inside, tests_perform,
+    begun_machines_stand, bodies_perform, leaves_perform, lets_perform, meanings_compose,
+    nothing_performs, places_inside, tests_perform,
 };
