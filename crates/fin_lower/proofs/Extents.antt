@@ -5,7 +5,7 @@ use Rattle.fin_ast.specs.declared.header.Header.{Header}
 use Rattle.fin_ast.specs.declared.checked.Dims.{Dims}
 use Rattle.fin_ast.specs.Shaped.{AreShaped, FitHeaders}
 use Rattle.fin_read.specs.Values.{AreShapes, heads_of}
-use Rattle.fin_lower.specs.Built.{AreBuilt}
+use Rattle.fin_perform.specs.Built.{AreBuilt}
 
 none_small : AreSmall []
 none_small k lt = absurd (omega (arith, lt))

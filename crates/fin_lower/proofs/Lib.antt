@@ -3,7 +3,6 @@ pub mod Bodies
 pub mod Capped
 pub mod Control
 pub mod Extents
-pub mod Fronts
 pub mod Listing
 pub mod Naming
 pub mod Placed

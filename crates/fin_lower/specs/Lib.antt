@@ -3,4 +3,3 @@ pub mod Room
 pub mod Sites
 pub mod Plans
 pub mod Lowered
-pub mod Built

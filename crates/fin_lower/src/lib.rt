@@ -12,7 +12,6 @@
 
 mod laws;
 mod plan;
-mod single;
 mod statements;
 
 pub use laws::accepted_is_lowered;

@@ -6,9 +6,11 @@ ghost use Rattle.fin_perform.specs.Codes as codes;
 ghost use Rattle.fin_lower.specs.Lowering as spec;
 ghost use Rattle.fin_lower.specs.Sites as sites;
 
-use crate::single::{Update, declare_code, freeze_code, push_charge, push_update, thaw_code};
 use fin_ast::{Expr, Stmt};
 use fin_ir::{Code, IExpr};
+use fin_perform::{
+    Update, declare_code, freeze_code, next_local, push_charge, push_update, thaw_code,
+};
 use fin_read::{Heads, Value, push, push_value};
 use sqlite_items::{Boxed, Items};
 use std::alloc::{AllocError, Global};
@@ -27,7 +29,7 @@ impl<'a> Model for Site<'a> {
     ghost use Rattle.std.specs.Coded.{codes};
     ghost use Rattle.fin_ast.specs.contracts.header.Header as header;
     ghost use Rattle.fin_ast.specs.Shaped.{AreRanged};
-    ghost use Rattle.fin_lower.specs.Built.{AreBuilt};
+    ghost use Rattle.fin_perform.specs.Built.{AreBuilt};
     ghost use Rattle.fin_lower.specs.Sites.{Site as Stands, site_over};
 
     ghost Value = { Stands };
@@ -276,7 +278,7 @@ fn push_valued(
         depth: _,
         next,
     } = push_value(alloc, into, site.heads, e, site.next)?;
-    let after = following(next)?;
+    let after = next_local(next)?;
     *most = (*most).max(after);
     Ok(expr)
 }
@@ -285,20 +287,10 @@ fn push_valued(
 fn behind<'a>(site: &Site<'a>) -> Result<Site<'a>, AllocError>
     ensures { IfOk result (λ s. s ≡ sites.behind site.now) }
 {
-    let next = following(site.next)?;
+    let next = next_local(site.next)?;
     Ok(Site {
         heads: site.heads,
         ranges: site.ranges,
         next,
     })
-}
-
-// The local behind that one; there is no memory for as many as a `u32` can't count.
-fn following(next: u32) -> Result<u32, AllocError>
-    ensures { IfOk result (λ after. after ≡ next + 1) }
-{
-    if next == 4294967295 {
-        return Err(AllocError);
-    }
-    Ok(next + 1)
 }

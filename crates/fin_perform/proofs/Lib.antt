@@ -3,6 +3,7 @@ pub mod Behind
 pub mod Bodies
 pub mod Composing
 pub mod Evaluating
+pub mod Fronts
 pub mod Given
 pub mod Headed
 pub mod Inside

@@ -8,3 +8,4 @@ pub mod Bodies
 pub mod Inside
 pub mod Places
 pub mod Meanings
+pub mod Built

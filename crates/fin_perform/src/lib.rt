@@ -1,5 +1,8 @@
 //! What a program's statements are as loop code, and what that code performs.
 //!
+//! The functions build code from tensors' headers, expressions and the codes of bodies, term for term that of
+//! `specs/Codes.antt`; what it performs is said by laws, so that a lowering which calls them is proved node by node.
+//!
 //! The code is over the program's tensors and any number of locals (`specs/Layouts.antt`). `specs/Codes.antt` has the
 //! code of the statements that have no body: a declaration, a freeze and a thaw pay what they store, and an update goes
 //! into its tensor where its coordinates lie in the box. Round a body's code stands a test or a let. A let's variable keeps
@@ -20,9 +23,16 @@
 //! A loop's code that means its loop fits in beside them.
 #![tactic(auto)]
 
+mod around;
 mod laws;
+mod single;
 
+pub use around::{Let, cond_code, let_code, literal_code};
 pub use laws::{
     begun_machines_stand, bodies_perform, leaves_perform, lets_perform, meanings_compose,
     nothing_performs, places_inside, tests_perform,
+};
+pub use single::{
+    Placed, Update, declare_code, freeze_code, next_local, push_charge, push_update, thaw_code,
+    update_code,
 };

@@ -1,27 +1,28 @@
 //! The code of statements without bodies.
-ghost use Rattle.std.specs.Prelude.{◌≡◌, ◌≤◌, ◌^◌, ◌++◌, [], ◌∷◌, IfOk, OnOk};
+ghost use Rattle.std.specs.Prelude.{◌≡◌, ◌+◌, ◌≤◌, ◌^◌, ◌++◌, [], ◌∷◌, IfOk, OnOk};
 ghost use Rattle.fin_tensor.specs.Extents.{dense_size};
 ghost use Rattle.fin_stage.specs.Stages as stage;
-ghost use Rattle.fin_lower.specs.Built.{AreBuilt};
+ghost use Rattle.fin_perform.specs.Built.{AreBuilt};
+ghost use Rattle.fin_read.specs.Values as values;
 ghost use Rattle.fin_perform.specs.Codes as spec;
 
 use fin_ast::{Expr, Index};
 use fin_base::Reduce;
 use fin_ir::{Code, IExpr};
-use fin_read::{Heads, count_expr, format_of, in_box, index_codes, shape_of};
+use fin_read::{Heads, Value, count_expr, format_of, in_box, index_codes, push_value, shape_of};
 use fin_tensor::Level;
 use sqlite_items::{Boxed, Items};
 use std::alloc::{AllocError, Global};
 
 /// Appends a charge of 1.
-pub(crate) fn push_charge(into: &mut Items<Code>) -> Result<(), AllocError>
+pub fn push_charge(into: &mut Items<Code>) -> Result<(), AllocError>
     ensures { OnOk result (into.new ≡ into.old ++ spec.charge_of 1 ∷ []) }
 {
     into.push(Code::Charge(IExpr::Num(1)))
 }
 
 /// The code of a declaration.
-pub(crate) fn declare_code(alloc: Global, heads: &Heads<'_>, tensor: u8) -> Result<Code, AllocError>
+pub fn declare_code(alloc: Global, heads: &Heads<'_>, tensor: u8) -> Result<Code, AllocError>
     requires built { AreBuilt heads.now }
     ensures { IfOk result (λ c. c ≡ spec.declare_code heads.now tensor) }
 {
@@ -50,7 +51,7 @@ fn dense_front(levels: &[Level], shape: &[u64]) -> u64
 }
 
 /// The code of a freeze.
-pub(crate) fn freeze_code(alloc: Global, heads: &Heads<'_>, tensor: u8) -> Result<Code, AllocError>
+pub fn freeze_code(alloc: Global, heads: &Heads<'_>, tensor: u8) -> Result<Code, AllocError>
     ensures { IfOk result (λ c. c ≡ spec.freeze_code heads.now tensor) }
 {
     let count = count_of(alloc, heads, tensor)?;
@@ -62,7 +63,7 @@ pub(crate) fn freeze_code(alloc: Global, heads: &Heads<'_>, tensor: u8) -> Resul
 }
 
 /// The code of a thaw.
-pub(crate) fn thaw_code(alloc: Global, heads: &Heads<'_>, tensor: u8) -> Result<Code, AllocError>
+pub fn thaw_code(alloc: Global, heads: &Heads<'_>, tensor: u8) -> Result<Code, AllocError>
     ensures { IfOk result (λ c. c ≡ spec.thaw_code heads.now tensor) }
 {
     let count = count_of(alloc, heads, tensor)?;
@@ -87,7 +88,7 @@ fn count_of(alloc: Global, heads: &Heads<'_>, tensor: u8) -> Result<IExpr, Alloc
 
 /// An update of a tensor at a coordinate by a value.
 #[derive(Drop)]
-pub(crate) struct Update<'a> {
+pub struct Update<'a> {
     pub tensor: u8,
     pub at: &'a [Index],
     pub by: Reduce,
@@ -95,7 +96,7 @@ pub(crate) struct Update<'a> {
 }
 
 /// Appends the code of an update behind that of its value.
-pub(crate) fn push_update(
+pub fn push_update(
     alloc: Global,
     into: &mut Items<Code>,
     heads: &Heads<'_>,
@@ -118,4 +119,47 @@ pub(crate) fn push_update(
     )?;
     into.push(Code::When { test, body })?;
     push_charge(into)
+}
+
+/// The code of a statement, and how many locals it needs.
+#[derive(Drop)]
+pub struct Placed {
+    pub code: Code,
+    pub need: u32,
+}
+
+/// The code of an update, with the steps of its value from a first free local on.
+pub fn update_code(
+    alloc: Global,
+    heads: &Heads<'_>,
+    update: &Update<'_>,
+    next: u32,
+) -> Result<Placed, AllocError>
+    ensures code { let value = values.value_code heads.now update.now.value.now next in
+        let at = update.now.at.now in
+        IfOk result (λ p. p.code ≡ spec.update_code heads.now update.now.tensor at update.now.by value) }
+    ensures need { IfOk result (λ p. p.need ≡ spec.end_of (values.value_code heads.now update.now.value.now next)) }
+{
+    let mut updated = Items::new(alloc);
+    let Value {
+        expr,
+        depth: _,
+        next: after,
+    } = push_value(alloc, &mut updated, heads, update.value, next)?;
+    let need = next_local(after)?;
+    push_update(alloc, &mut updated, heads, update, expr)?;
+    Ok(Placed {
+        code: Code::Seq(updated),
+        need,
+    })
+}
+
+/// The local behind that one; there is no memory for as many as a `u32` can't count.
+pub fn next_local(next: u32) -> Result<u32, AllocError>
+    ensures { IfOk result (λ after. after ≡ next + 1) }
+{
+    if next == 4294967295 {
+        return Err(AllocError);
+    }
+    Ok(next + 1)
 }

@@ -1,5 +1,5 @@
 use Rattle.std.proofs.Common.{length}
-use Rattle.fin_lower.proofs.single.+dense_front.Given as goal
+use Rattle.fin_perform.proofs.single.+dense_front.Given as goal
 
 abbrev pub decreases-dense_front : goal.decreases-dense_front
 decreases-dense_front l = length l.levels.now
