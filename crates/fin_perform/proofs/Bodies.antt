@@ -26,17 +26,14 @@ use Rattle.fin_nest.proofs.Pinning.{live_closed, related_on}
 use Rattle.fin_nest.proofs.Senses.{advances}
 use Rattle.fin_nest.proofs.Statements.{performs_when}
 use Rattle.fin_simp.specs.Numbered.{Here, behind_test, past_stmt, past_all}
-use Rattle.fin_simp.specs.Left.{Marks}
-use Rattle.fin_simp.specs.Remaining.{is_nothing}
-use Rattle.fin_simp.specs.Rest.{test_rest}
-use Rattle.fin_simp.specs.Work.{World, Worked, work_step, world_of, chosen}
+use Rattle.fin_simp.specs.Work.{World, Worked, Context, work_step, world_of, chosen}
 use Rattle.fin_simp.specs.Moving.{worked_all}
 use Rattle.fin_simp.proofs.Equations.{at_block, at_cond}
 use Rattle.fin_perform.specs.Bodies.{DoesTurns, DoesBody, BodyPerforms, BodiesPerform, TestsPerform}
 use Rattle.fin_perform.specs.Codes.{charge_of, cond_code}
 use Rattle.fin_perform.specs.Layouts.{heads_in, layout_with, start_with}
 use Rattle.fin_perform.specs.Performing.{Does, DoesStmt}
-use Rattle.fin_perform.specs.Working.{run_of, turns_of, body_of}
+use Rattle.fin_perform.specs.Working.{run_of, turns_of, body_of, nothing_in, test_at}
 use Rattle.fin_perform.proofs.Composing.{does_as, seq_does, nothing_does, both_do, paid_does, advances_still, advances_then}
 use Rattle.fin_perform.proofs.Evaluating.{knowing, with_value_does}
 use Rattle.fin_perform.proofs.Working.{run_left}
@@ -72,10 +69,10 @@ closed_behind s b r m k = record {
 }
 
 -- some behind others
-pub turns_joined : (w : World) (xs ys : List Stmt) (h : Here) (m : Marks) (vars : Numbers) (r : Run)
-    → turns_of w (xs ++ ys) h m vars r ≡ turns_of w ys (past_all (map past_stmt xs) h) m vars (turns_of w xs h m vars r)
-turns_joined w [] ys h m vars r = refl
-turns_joined w (y ∷ xs) ys h m vars r = turns_joined w xs ys (past_stmt y h) m vars (run_of w y h m vars r)
+pub turns_joined : (w : World) (xs ys : List Stmt) (h : Here) (ctx : Context) (vars : Numbers) (r : Run)
+    → turns_of w (xs ++ ys) h ctx vars r ≡ turns_of w ys (past_all (map past_stmt xs) h) ctx vars (turns_of w xs h ctx vars r)
+turns_joined w [] ys h ctx vars r = refl
+turns_joined w (y ∷ xs) ys h ctx vars r = turns_joined w xs ys (past_stmt y h) ctx vars (run_of w y h ctx vars r)
 
 module _ (c : Checked) (room : ℕ) (inputs : List Storage) (p : Place) where
   abbrev world : World
@@ -90,37 +87,37 @@ module _ (c : Checked) (room : ℕ) (inputs : List Storage) (p : Place) where
   abbrev layout : Layout
   layout = layout_with c room
 
-  body_does : (xs : List Stmt) (h : Here) (m : Marks) (vars : Numbers) (cs : List Code) → DoesTurns c room inputs p cs xs h m vars → DoesBody c room inputs p cs xs h m vars
-  body_does xs h m vars cs d = record {
+  body_does : (xs : List Stmt) (h : Here) (ctx : Context) (vars : Numbers) (cs : List Code) → DoesTurns c room inputs p cs xs h ctx vars → DoesBody c room inputs p cs xs h ctx vars
+  body_does xs h ctx vars cs d = record {
     performs = record {
-      does = λ r n ready k g. closed_behind start r.stages (turns_of world xs h m vars r) (meaning_all layout cs n) (d.performs.does r n ready k g);
+      does = λ r n ready k g. closed_behind start r.stages (turns_of world xs h ctx vars r) (meaning_all layout cs n) (d.performs.does r n ready k g);
       leaves = d.performs.leaves;
     };
-    advances = λ r. advances_then r (turns_of world xs h m vars r) (body_of world xs h m vars r) (d.advances r) (advances (turns_of world xs h m vars r) (body_of world xs h m vars r) (onward_closed r.stages (turns_of world xs h m vars r)));
+    advances = λ r. advances_then r (turns_of world xs h ctx vars r) (body_of world xs h ctx vars r) (d.advances r) (advances (turns_of world xs h ctx vars r) (body_of world xs h ctx vars r) (onward_closed r.stages (turns_of world xs h ctx vars r)));
   }
 
-  module _ (m : Marks) (vars : Numbers) where
-    known_does : (test : Expr) (xs : List Stmt) (line last : ℕ) (h : Here) (n : ℤ) (cs : List Code) → is_nothing (s.Cond test xs line last) h m ≡ false → test_rest test h m ≡ Some n
-        → DoesBody c room inputs p cs xs (behind_test test h) m vars → DoesStmt c room inputs p cs (s.Cond test xs line last) h m vars
+  module _ (ctx : Context) (vars : Numbers) where
+    known_does : (test : Expr) (xs : List Stmt) (line last : ℕ) (h : Here) (n : ℤ) (cs : List Code) → nothing_in (s.Cond test xs line last) h ctx ≡ false → test_at test h ctx ≡ Some n
+        → DoesBody c room inputs p cs xs (behind_test test h) ctx vars → DoesStmt c room inputs p cs (s.Cond test xs line last) h ctx vars
     known_does test xs line last h n cs some e d =
         let parts : List Worked = worked_all world xs (behind_test test h) in
-        let body : Action = λ ns r. body_of world xs (behind_test test h) m ns r in
-        does_as c room inputs p cs (run_of world (s.Cond test xs line last) h m vars) (body vars)
-        (λ r. run_left world (s.Cond test xs line last) h (Stmt-F.Cond test parts line last) (at_cond Worked (work_step world) test xs line last h) m vars r some
+        let body : Action = λ ns r. body_of world xs (behind_test test h) ctx ns r in
+        does_as c room inputs p cs (run_of world (s.Cond test xs line last) h ctx vars) (body vars)
+        (λ r. run_left world (s.Cond test xs line last) h (Stmt-F.Cond test parts line last) (at_cond Worked (work_step world) test xs line last h) vars r ctx some
         ∙ ap (λ (o : Option ℤ). chosen set o test body vars r) e) d
 
-    pub body_performs : BodyPerforms c room inputs p m vars
+    pub body_performs : BodyPerforms c room inputs p ctx vars
     body_performs = record {
       nothing = λ h. nothing_does c room inputs p;
-      next = λ x xs h cs ds stay a b. both_do c room inputs p cs ds (run_of world x h m vars) (turns_of world xs (past_stmt x h) m vars) stay a b;
+      next = λ x xs h cs ds stay a b. both_do c room inputs p cs ds (run_of world x h ctx vars) (turns_of world xs (past_stmt x h) ctx vars) stay a b;
       last = λ xs x h cs ds stay a b.
-          let g : Run → Run = run_of world x (past_all (map past_stmt xs) h) m vars in
-          does_as c room inputs p (cs ++ ds) (turns_of world (xs ++ x ∷ []) h m vars) (λ r. g (turns_of world xs h m vars r)) (turns_joined world xs (x ∷ []) h m vars)
-          (both_do c room inputs p cs ds (turns_of world xs h m vars) g stay a b);
-      body = λ xs h cs d. body_does xs h m vars cs d;
+          let g : Run → Run = run_of world x (past_all (map past_stmt xs) h) ctx vars in
+          does_as c room inputs p (cs ++ ds) (turns_of world (xs ++ x ∷ []) h ctx vars) (λ r. g (turns_of world xs h ctx vars r)) (turns_joined world xs (x ∷ []) h ctx vars)
+          (both_do c room inputs p cs ds (turns_of world xs h ctx vars) g stay a b);
+      body = λ xs h cs d. body_does xs h ctx vars cs d;
       block = λ xs line last h cs some d.
-          does_as c room inputs p cs (run_of world (s.Block xs line last) h m vars) (body_of world xs h m vars)
-          (λ r. run_left world (s.Block xs line last) h (Stmt-F.Block (worked_all world xs h) line last) (at_block Worked (work_step world) xs line last h) m vars r some) d;
+          does_as c room inputs p cs (run_of world (s.Block xs line last) h ctx vars) (body_of world xs h ctx vars)
+          (λ r. run_left world (s.Block xs line last) h (Stmt-F.Block (worked_all world xs h) line last) (at_block Worked (work_step world) xs line last h) vars r ctx some) d;
       known = known_does;
     }
 
@@ -134,9 +131,9 @@ either_advances true r n a = advances_still r
 either_advances false r n a = a
 
 pub tests_perform : TestsPerform
-tests_perform c room inputs sc vars p fits given_fit stands test xs line last h m cs named enough some none d =
+tests_perform c room inputs sc vars p fits given_fit stands test xs line last h ctx cs named enough some none d =
     let v : Lowered = value_code (heads_in c) test p.next in
-    let body : Action = λ ns r. body_of (world_of c inputs) xs (behind_test test h) m ns r in
+    let body : Action = λ ns r. body_of (world_of c inputs) xs (behind_test test h) ctx ns r in
     let after : ℤ → Run → Run = λ z r. if int_eq z (pos 0) then r else body vars r in
     let rest : List Code = When v.value (Seq cs) ∷ [] in
     let asks : Run → Run = with_value (setting_of c inputs) test vars after in
@@ -152,7 +149,7 @@ tests_perform c room inputs sc vars p fits given_fit stands test xs line last h 
       performs = performs_when (layout_with c room) (runs (start_with c room inputs)) (knowing p (v.value, z)) v.value (λ r. z) cs (body vars) (λ r n ready k. ready.facts.0) (inner z);
       advances = λ r. either_advances (int_eq z (pos 0)) r (body vars r) (d.advances r);
     }) in
-    does_as c room inputs p (cond_code v cs ∷ []) (run_of (world_of c inputs) (s.Cond test xs line last) h m vars) (λ r. asks (worked 1 r))
-    (λ r. run_left (world_of c inputs) (s.Cond test xs line last) h (Stmt-F.Cond test (worked_all (world_of c inputs) xs (behind_test test h)) line last) (at_cond Worked (work_step (world_of c inputs)) test xs line last h) m vars r some
+    does_as c room inputs p (cond_code v cs ∷ []) (run_of (world_of c inputs) (s.Cond test xs line last) h ctx vars) (λ r. asks (worked 1 r))
+    (λ r. run_left (world_of c inputs) (s.Cond test xs line last) h (Stmt-F.Cond test (worked_all (world_of c inputs) xs (behind_test test h)) line last) (at_cond Worked (work_step (world_of c inputs)) test xs line last h) vars r ctx some
     ∙ ap (λ (o : Option ℤ). chosen (setting_of c inputs) o test body vars r) none)
     (seq_does c room inputs p (charge_of 1 ∷ prelude v ++ rest) (λ r. asks (worked 1 r)) (paid_does c room inputs p 1 (prelude v ++ rest) asks stands.stay asked))

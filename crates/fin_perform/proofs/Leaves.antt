@@ -1,5 +1,5 @@
 -- The code of statements without bodies performs what they do.
-use Rattle.std.proofs.Common.{◌≡◌, ℕ, ◌<◌, ◌≤◌, Bool, true, false, List, [], ◌∷◌, ◌++◌, map, length, Some, refl, sym, ap, ◌∙◌, subst, ℤ, pos, arith}
+use Rattle.std.proofs.Common.{◌≡◌, ℕ, ◌<◌, ◌≤◌, Bool, true, false, List, [], ◌∷◌, ◌++◌, map, length, Some, None, refl, sym, ap, ◌∙◌, subst, ℤ, pos, arith}
 use Rattle.std.specs.Prelude.{slice_get, ◌&&◌, ◌==◌}
 use Rattle.std.specs.Ordering.{int_eq}
 use Rattle.std.specs.List.{list_all}
@@ -55,8 +55,7 @@ use Rattle.fin_perform.specs.Performing.{Does, DoesStmt, NothingPerforms, LeafPe
 use Rattle.fin_perform.proofs.Composing.{does_as, seq_does, nothing_does}
 use Rattle.fin_perform.proofs.Working.{run_left, nothing_runs}
 use Rattle.fin_simp.specs.Numbered.{Here}
-use Rattle.fin_simp.specs.Left.{Marks}
-use Rattle.fin_simp.specs.Work.{World, Worked, work_step, world_of}
+use Rattle.fin_simp.specs.Work.{World, Worked, Context, work_step, world_of}
 use Rattle.fin_simp.proofs.Equations.{at_declare, at_freeze, at_thaw, at_update}
 use Rattle.fin_ast.specs.declared.tree.Stmt.TheOpen.{Stmt-F}
 use Rattle.fin_ast.proofs.Nodes.{of_declare, of_update}
@@ -216,41 +215,53 @@ module _ (c : Checked) (room : ℕ) (inputs : List Storage) (sc : Scope) (vars :
   world = world_of c inputs
 
   -- a leaf, which the run by pieces does
-  leaf_does : (cs : List Code) (x : Stmt) (h : Here) (m : Marks) (l : Leaf) → ((r : Run) → run_of world x h m vars r ≡ leaf (setting_of c inputs) l vars r)
-      → Performs (layout_with c room) (runs (start_with c room inputs)) p cs (leaf (setting_of c inputs) l vars) → DoesStmt c room inputs p cs x h m vars
-  leaf_does cs x h m l same performs =
-      does_as c room inputs p cs (run_of world x h m vars) (leaf (setting_of c inputs) l vars) same
+  leaf_does : (cs : List Code) (x : Stmt) (h : Here) (ctx : Context) (l : Leaf) → ((r : Run) → run_of world x h ctx vars r ≡ leaf (setting_of c inputs) l vars r)
+      → Performs (layout_with c room) (runs (start_with c room inputs)) p cs (leaf (setting_of c inputs) l vars) → DoesStmt c room inputs p cs x h ctx vars
+  leaf_does cs x h ctx l same performs =
+      does_as c room inputs p cs (run_of world x h ctx vars) (leaf (setting_of c inputs) l vars) same
       (record { performs = performs; advances = λ r. advances r (leaf (setting_of c inputs) l vars r) (leaf_goes_on (setting_of c inputs) l vars r) })
 
-  abbrev goes_at : Marks → Run → Worked → Run
-  goes_at m r z = z.run (Some m) vars r
+  abbrev goes_at : Context → Run → Worked → Run
+  goes_at ctx r z = z.run ctx vars r
+
+  declare_same : (t : ℕ) (value : ℤ) (line : ℕ) (h : Here) (ctx : Context) (r : Run) → run_of world (s.Declare t value line) h ctx vars r ≡ leaf (setting_of c inputs) (Declare t) vars r
+  declare_same t value line h None r = ap (goes_at None r) (at_declare Worked (work_step world) t value line h)
+  declare_same t value line h (Some m) r = ap (goes_at (Some m) r) (at_declare Worked (work_step world) t value line h)
+
+  freeze_same : (t line : ℕ) (h : Here) (ctx : Context) (r : Run) → run_of world (s.Freeze t line) h ctx vars r ≡ leaf (setting_of c inputs) (Freeze t) vars r
+  freeze_same t line h None r = ap (goes_at None r) (at_freeze Worked (work_step world) t line h)
+  freeze_same t line h (Some m) r = ap (goes_at (Some m) r) (at_freeze Worked (work_step world) t line h)
+
+  thaw_same : (t line : ℕ) (h : Here) (ctx : Context) (r : Run) → run_of world (s.Thaw t line) h ctx vars r ≡ leaf (setting_of c inputs) (Thaw t) vars r
+  thaw_same t line h None r = ap (goes_at None r) (at_thaw Worked (work_step world) t line h)
+  thaw_same t line h (Some m) r = ap (goes_at (Some m) r) (at_thaw Worked (work_step world) t line h)
 
   pub leaf_performs_all : LeafPerforms c room inputs sc vars p
   leaf_performs_all = record {
-    declare = λ t value line h m loose named.
-        leaf_does (declare_code (heads_in c) t ∷ []) (s.Declare t value line) h m (Declare t) (λ r. ap (goes_at m r) (at_declare Worked (work_step world) t value line h))
+    declare = λ t value line h ctx loose named.
+        leaf_does (declare_code (heads_in c) t ∷ []) (s.Declare t value line) h ctx (Declare t) (λ r. declare_same t value line h ctx r)
         (declare_performs c room inputs fits given_fit sc vars p stands t loose (λ (x : Header). int_eq value x.format.fill)
         (sym (ap (λ (g : Scope → Bool). g sc) (of_declare (Scope → Bool) stmt_step t value line)) ∙ named));
-    freeze = λ t line h m loose.
-        leaf_does (freeze_code (heads_in c) t ∷ []) (s.Freeze t line) h m (Freeze t) (λ r. ap (goes_at m r) (at_freeze Worked (work_step world) t line h))
+    freeze = λ t line h ctx loose.
+        leaf_does (freeze_code (heads_in c) t ∷ []) (s.Freeze t line) h ctx (Freeze t) (λ r. freeze_same t line h ctx r)
         (freeze_performs c room inputs fits given_fit sc vars p stands t loose);
-    thaw = λ t line h m loose.
-        leaf_does (thaw_code (heads_in c) t ∷ []) (s.Thaw t line) h m (Thaw t) (λ r. ap (goes_at m r) (at_thaw Worked (work_step world) t line h))
+    thaw = λ t line h ctx loose.
+        leaf_does (thaw_code (heads_in c) t ∷ []) (s.Thaw t line) h ctx (Thaw t) (λ r. thaw_same t line h ctx r)
         (thaw_performs c room inputs fits given_fit sc vars p stands t loose);
-    update = λ t at by value line h m loose named enough some.
+    update = λ t at by value line h ctx loose named enough some.
         let x : Stmt = s.Update t at by value line in
         let named_both : (is_access sc t at && is_named_expr value sc) ≡ true = sym (ap (λ (g : Scope → Bool). g sc) (of_update (Scope → Bool) stmt_step t at by value line)) ∙ named in
         let access : is_access sc t at ≡ true = left (is_access sc t at) (is_named_expr value sc) named_both in
         let indices : list_all (is_index sc) at ≡ true = right (holds_of (λ (y : Header). length at == length y.format.levels) (slice_get sc.headers t)) (list_all (is_index sc) at) access in
         let v : Lowered = value_code (heads_in c) value p.next in
         let codes : List Code = prelude v ++ update_after (heads_in c) t at by v.value in
-        let plain = leaf_does codes x h m (acts.Update t at by value) (λ r. run_left world x h (Stmt-F.Update t at by value line) (at_update Worked (work_step world) t at by value line h) m vars r some)
+        let plain = leaf_does codes x h ctx (acts.Update t at by value) (λ r. run_left world x h (Stmt-F.Update t at by value line) (at_update Worked (work_step world) t at by value line h) vars r ctx some)
         (put_in c room inputs fits given_fit sc vars p stands t loose at by value indices (right (is_access sc t at) (is_named_expr value sc) named_both) enough).performs in
-        seq_does c room inputs p codes (run_of world x h m vars) plain;
+        seq_does c room inputs p codes (run_of world x h ctx vars) plain;
   }
 
 pub leaves_perform : LeavesPerform
 leaves_perform = leaf_performs_all
 
 pub nothing_performs : NothingPerforms
-nothing_performs c room inputs p x h m vars e = does_as c room inputs p [] (run_of (world_of c inputs) x h m vars) (λ r. r) (nothing_runs (world_of c inputs) x h m e vars) (nothing_does c room inputs p)
+nothing_performs c room inputs p x h ctx vars e = does_as c room inputs p [] (run_of (world_of c inputs) x h ctx vars) (λ r. r) (nothing_runs (world_of c inputs) x h ctx e vars) (nothing_does c room inputs p)

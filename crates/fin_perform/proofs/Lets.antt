@@ -31,10 +31,7 @@ use Rattle.fin_nest.proofs.Pinning.{alive}
 use Rattle.fin_nest.proofs.Senses.{runs_lawful}
 use Rattle.fin_nest.proofs.Statements.{hold_on}
 use Rattle.fin_simp.specs.Numbered.{Here, behind}
-use Rattle.fin_simp.specs.Left.{Marks, binding}
-use Rattle.fin_simp.specs.Remaining.{is_nothing}
-use Rattle.fin_simp.specs.Rest.{expr_rest}
-use Rattle.fin_simp.specs.Work.{World, Worked, work_step, world_of, bound}
+use Rattle.fin_simp.specs.Work.{World, Worked, Context, inside, work_step, world_of, bound}
 use Rattle.fin_simp.specs.Moving.{worked_all}
 use Rattle.fin_simp.proofs.Equations.{at_bind}
 use Rattle.fin_perform.specs.Bodies.{IsInside, LetPerforms, LetsPerform}
@@ -42,7 +39,7 @@ use Rattle.fin_perform.specs.Codes.{charge_of, literal_code, let_code}
 use Rattle.fin_perform.specs.Layouts.{heads_in, layout_with, start_with}
 use Rattle.fin_perform.specs.Performing.{Does}
 use Rattle.fin_perform.specs.Standing.{StandsIn}
-use Rattle.fin_perform.specs.Working.{run_of, body_of}
+use Rattle.fin_perform.specs.Working.{run_of, body_of, nothing_in, literal_at}
 use Rattle.fin_perform.proofs.Composing.{does_as, seq_does, paid_does}
 use Rattle.fin_perform.proofs.Evaluating.{knowing, left_both, with_value_does}
 use Rattle.fin_perform.proofs.Valued.{assigned}
@@ -119,25 +116,25 @@ module _ (c : Checked) (room : ℕ) (inputs : List Storage) (sc : Scope) (vars :
   abbrev set : Setting
   set = setting_of c inputs
 
-  abbrev body_in : List Stmt → Here → Marks → Option ℤ → Action
-  body_in xs h m o ns r = body_of world xs h (binding m var o) ns r
+  abbrev body_in : List Stmt → Here → Context → Option ℤ → Action
+  body_in xs h ctx o ns r = body_of world xs h (inside ctx var o) ns r
 
-  bind_is : (value : Expr) (xs : List Stmt) (line last : ℕ) (h : Here) (m : Marks) → is_nothing (s.Bind var value xs line last) h m ≡ false → (o : Option ℤ) → (expr_rest value h.read m).literal ≡ o → (r : Run)
-      → run_of world (s.Bind var value xs line last) h m vars r ≡ bound set o var value (body_in xs (behind value h) m o) vars r
-  bind_is value xs line last h m some o e r =
-      run_left world (s.Bind var value xs line last) h (Stmt-F.Bind var value (worked_all world xs (behind value h)) line last) (at_bind Worked (work_step world) var value xs line last h) m vars r some
-      ∙ ap (λ (k : Option ℤ). bound set k var value (body_in xs (behind value h) m k) vars r) e
+  bind_is : (value : Expr) (xs : List Stmt) (line last : ℕ) (h : Here) (ctx : Context) → nothing_in (s.Bind var value xs line last) h ctx ≡ false → (o : Option ℤ) → literal_at value h ctx ≡ o → (r : Run)
+      → run_of world (s.Bind var value xs line last) h ctx vars r ≡ bound set o var value (body_in xs (behind value h) ctx o) vars r
+  bind_is value xs line last h ctx some o e r =
+      run_left world (s.Bind var value xs line last) h (Stmt-F.Bind var value (worked_all world xs (behind value h)) line last) (at_bind Worked (work_step world) var value xs line last h) vars r ctx some
+      ∙ ap (λ (k : Option ℤ). bound set k var value (body_in xs (behind value h) ctx k) vars r) e
 
   pub let_performs : LetPerforms c room inputs sc vars p var
   let_performs = record {
-    literal = λ q value xs line last h m n cs some e inside d.
-        let f : Run → Run = body_in xs (behind value h) m (Some n) (slice_set vars var n) in
-        does_as c room inputs p (literal_code var n cs ∷ []) (run_of world (s.Bind var value xs line last) h m vars) f (bind_is value xs line last h m some (Some n) e)
+    literal = λ q value xs line last h ctx n cs some e inside d.
+        let f : Run → Run = body_in xs (behind value h) ctx (Some n) (slice_set vars var n) in
+        does_as c room inputs p (literal_code var n cs ∷ []) (run_of world (s.Bind var value xs line last) h ctx vars) f (bind_is value xs line last h ctx some (Some n) e)
         (seq_does c room inputs p (Assign var (Num n) ∷ cs) f
         (assign_does c room inputs p stands.stay var below binds q n inside (Num n) cs f d p refl refl refl (λ k ready. (ready, value_num (seen k) k.locals n))));
-    evaluated = λ q value xs line last h m cs named enough some e inside d.
+    evaluated = λ q value xs line last h ctx cs named enough some e inside d.
         let v : Lowered = value_code (heads_in c) value p.next in
-        let body : Action = body_in xs (behind value h) m None in
+        let body : Action = body_in xs (behind value h) ctx None in
         let after : ℤ → Run → Run = λ z r. body (slice_set vars var z) r in
         let asks : Run → Run = with_value set value vars after in
         let rest : List Code = Assign var v.value ∷ cs in
@@ -145,7 +142,7 @@ module _ (c : Checked) (room : ℕ) (inputs : List Storage) (sc : Scope) (vars :
         with_value_does c room inputs fits given_fit sc vars p stands value named enough rest after
         (λ z. assign_does c room inputs p stands.stay var below binds (q z) z (inside z) v.value cs (after z) (d z) (knowing p (v.value, z)) refl refl refl
         (λ k ready. (record { live = ready.live; locals = ready.locals; facts = ready.facts.1 }, ready.facts.0))) in
-        does_as c room inputs p (let_code var v cs ∷ []) (run_of world (s.Bind var value xs line last) h m vars) (λ r. asks (worked 1 r)) (bind_is value xs line last h m some None e)
+        does_as c room inputs p (let_code var v cs ∷ []) (run_of world (s.Bind var value xs line last) h ctx vars) (λ r. asks (worked 1 r)) (bind_is value xs line last h ctx some None e)
         (seq_does c room inputs p (charge_of 1 ∷ prelude v ++ rest) (λ r. asks (worked 1 r)) (paid_does c room inputs p 1 (prelude v ++ rest) asks stands.stay asked));
   }
 

@@ -23,10 +23,7 @@ use Rattle.fin_read.specs.Values.{value_code}
 use Rattle.fin_read.proofs.Equations.{code_grows}
 use Rattle.fin_nest.specs.Performs.{Place}
 use Rattle.fin_simp.specs.Numbered.{Here, behind, behind_test, past_stmt, past_all}
-use Rattle.fin_simp.specs.Left.{Marks, binding}
-use Rattle.fin_simp.specs.Remaining.{is_nothing}
-use Rattle.fin_simp.specs.Rest.{expr_rest, test_rest}
-use Rattle.fin_simp.specs.Work.{World, world_of}
+use Rattle.fin_simp.specs.Work.{World, Context, world_of, inside}
 use Rattle.fin_perform.specs.Bodies.{DoesBody, LetPerforms}
 use Rattle.fin_perform.specs.Codes.{update_code, cond_code, literal_code, let_code, end_of}
 use Rattle.fin_perform.specs.Layouts.{heads_in}
@@ -35,7 +32,7 @@ use Rattle.fin_perform.specs.Performing.{DoesStmt, LeafPerforms}
 use Rattle.fin_perform.specs.Inside.{place_inside, InsideStands}
 use Rattle.fin_perform.specs.Places.{Suits, writes_step, writes, write_all}
 use Rattle.fin_perform.specs.Standing.{StandsIn}
-use Rattle.fin_perform.specs.Working.{turns_of}
+use Rattle.fin_perform.specs.Working.{turns_of, nothing_in, literal_at, test_at}
 use Rattle.fin_perform.proofs.Bodies.{turns_joined, body_performs, tests_perform}
 use Rattle.fin_perform.proofs.Composing.{does_as, nothing_does, both_do}
 use Rattle.fin_perform.proofs.Leaves.{leaf_performs_all, nothing_performs}
@@ -87,85 +84,85 @@ module _ (xs : List Stmt) (line last : ℕ) where
     bind_named : (sc : Scope) → is_named (s.Bind var value xs line last) sc ≡ true → (is_named_expr value sc && are_named xs (within_let sc var)) ≡ true
     bind_named sc e = sym (ap (λ (f : Scope → Bool). f sc) (of_bind (Scope → Bool) stmt_step var value xs line last)) ∙ e
 
-module _ (c : Checked) (next need : ℕ) (m : Marks) where
+module _ (c : Checked) (next need : ℕ) (ctx : Context) where
   -- ---- one after another
-  joined_means : (xs ys : List Stmt) (h : Here) (cs ds : List Code) → Means c next need cs (turns_deed xs h m) → Means c next need ds (turns_deed ys (past_all (map past_stmt xs) h) m)
-      → Means c next need (cs ++ ds) (turns_deed (xs ++ ys) h m)
+  joined_means : (xs ys : List Stmt) (h : Here) (cs ds : List Code) → Means c next need cs (turns_deed xs h ctx) → Means c next need ds (turns_deed ys (past_all (map past_stmt xs) h) ctx)
+      → Means c next need (cs ++ ds) (turns_deed (xs ++ ys) h ctx)
   joined_means xs ys h cs ds a b room inputs sc vars p le fits given_fit u named =
       let w : World = world_of c inputs in
       let names = named_split xs ys sc named in
-      let f : Run → Run = turns_of w xs h m vars in
-      let g : Run → Run = turns_of w ys (past_all (map past_stmt xs) h) m vars in
-      does_as c room inputs p (cs ++ ds) (turns_of w (xs ++ ys) h m vars) (λ r. g (f r)) (turns_joined w xs ys h m vars)
+      let f : Run → Run = turns_of w xs h ctx vars in
+      let g : Run → Run = turns_of w ys (past_all (map past_stmt xs) h) ctx vars in
+      does_as c room inputs p (cs ++ ds) (turns_of w (xs ++ ys) h ctx vars) (λ r. g (f r)) (turns_joined w xs ys h ctx vars)
       (both_do c room inputs p cs ds f g u.stands.stay
       (a room inputs sc vars p le fits given_fit (suits_left c next sc vars p xs ys u) names.0)
       (b room inputs sc vars p le fits given_fit (suits_right c next sc vars p xs ys u) names.1))
 
-  single_means : (x : Stmt) (h : Here) (cs : List Code) → Means c next need cs (stmt_deed x h m) → Means c next need cs (turns_deed (x ∷ []) h m)
+  single_means : (x : Stmt) (h : Here) (cs : List Code) → Means c next need cs (stmt_deed x h ctx) → Means c next need cs (turns_deed (x ∷ []) h ctx)
   single_means x h cs a room inputs sc vars p le fits given_fit u named =
       a room inputs sc vars p le fits given_fit
       (suits_as c next sc vars p (bindings_of_all (x ∷ [])) (bindings_of x) (write_all (x ∷ [])) (writes x) (append-nil (bindings_of x)) (λ t e. or_left (writes x t) false e) u)
       (left (is_named x sc) true named)
 
-  parts : MeansParts c next need m
+  parts : MeansParts c next need ctx
   parts = record {
     none = λ h room inputs sc vars p le fits given_fit u named. nothing_does c room inputs p;
     single = single_means;
     joined = joined_means;
-    body = λ xs h cs a room inputs sc vars p le fits given_fit u named. (body_performs c room inputs p m vars).body xs h cs (a room inputs sc vars p le fits given_fit u named);
+    body = λ xs h cs a room inputs sc vars p le fits given_fit u named. (body_performs c room inputs p ctx vars).body xs h cs (a room inputs sc vars p le fits given_fit u named);
   }
 
   -- ---- statements without bodies
   leaf_at : (room : ℕ) (inputs : List Storage) (sc : Scope) (vars : Numbers) (p : Place) → FitHeaders c.program.headers c.dims → FitProgram c inputs → StandsIn c sc vars p → LeafPerforms c room inputs sc vars p
   leaf_at room inputs sc vars p fits given_fit stands = leaf_performs_all c room inputs sc vars p fits given_fit stands
 
-  update_means : (t : ℕ) (at : List Index) (by : Reduce) (value : Expr) (line : ℕ) (h : Here) → is_nothing (s.Update t at by value line) h m ≡ false → end_of (value_code (heads_in c) value next) ≤ need
-      → Means c next need (update_code (heads_in c) t at by (value_code (heads_in c) value next) ∷ []) (stmt_deed (s.Update t at by value line) h m)
+  update_means : (t : ℕ) (at : List Index) (by : Reduce) (value : Expr) (line : ℕ) (h : Here) → nothing_in (s.Update t at by value line) h ctx ≡ false → end_of (value_code (heads_in c) value next) ≤ need
+      → Means c next need (update_code (heads_in c) t at by (value_code (heads_in c) value next) ∷ []) (stmt_deed (s.Update t at by value line) h ctx)
   update_means t at by value line h some enough room inputs sc vars p le fits given_fit u named =
       let x : Stmt = s.Update t at by value line in
       let fine : end_of (value_code (heads_in c) value p.next) ≤ room = subst (λ (n : ℕ). end_of (value_code (heads_in c) value n) ≤ room) (sym u.next_is) (omega (arith, enough, le)) in
       let loose : p.steady t ≡ false = u.loose t (ap (λ (f : ℕ → Bool). f t) (of_update (ℕ → Bool) writes_step t at by value line) ∙ same_written t) in
-      subst (λ (n : ℕ). DoesStmt c room inputs p (update_code (heads_in c) t at by (value_code (heads_in c) value n) ∷ []) x h m vars) u.next_is
-      ((leaf_at room inputs sc vars p fits given_fit u.stands).update t at by value line h m loose named fine some)
+      subst (λ (n : ℕ). DoesStmt c room inputs p (update_code (heads_in c) t at by (value_code (heads_in c) value n) ∷ []) x h ctx vars) u.next_is
+      ((leaf_at room inputs sc vars p fits given_fit u.stands).update t at by value line h ctx loose named fine some)
 
-  leaves : MeansLeaves c next need m
+  leaves : MeansLeaves c next need ctx
   leaves = record {
-    nothing = λ x h e room inputs sc vars p le fits given_fit u named. nothing_performs c room inputs p x h m vars e;
+    nothing = λ x h e room inputs sc vars p le fits given_fit u named. nothing_performs c room inputs p x h ctx vars e;
     declare = λ t value line h room inputs sc vars p le fits given_fit u named.
-        (leaf_at room inputs sc vars p fits given_fit u.stands).declare t value line h m (u.loose t (ap (λ (f : ℕ → Bool). f t) (of_declare (ℕ → Bool) writes_step t value line) ∙ same_written t)) named;
+        (leaf_at room inputs sc vars p fits given_fit u.stands).declare t value line h ctx (u.loose t (ap (λ (f : ℕ → Bool). f t) (of_declare (ℕ → Bool) writes_step t value line) ∙ same_written t)) named;
     freeze = λ t line h room inputs sc vars p le fits given_fit u named.
-        (leaf_at room inputs sc vars p fits given_fit u.stands).freeze t line h m (u.loose t (ap (λ (f : ℕ → Bool). f t) (of_freeze (ℕ → Bool) writes_step t line) ∙ same_written t));
+        (leaf_at room inputs sc vars p fits given_fit u.stands).freeze t line h ctx (u.loose t (ap (λ (f : ℕ → Bool). f t) (of_freeze (ℕ → Bool) writes_step t line) ∙ same_written t));
     thaw = λ t line h room inputs sc vars p le fits given_fit u named.
-        (leaf_at room inputs sc vars p fits given_fit u.stands).thaw t line h m (u.loose t (ap (λ (f : ℕ → Bool). f t) (of_thaw (ℕ → Bool) writes_step t line) ∙ same_written t));
+        (leaf_at room inputs sc vars p fits given_fit u.stands).thaw t line h ctx (u.loose t (ap (λ (f : ℕ → Bool). f t) (of_thaw (ℕ → Bool) writes_step t line) ∙ same_written t));
     update = update_means;
   }
 
   -- ---- blocks and tests
-  block_means : (xs : List Stmt) (line last : ℕ) (h : Here) (cs : List Code) → is_nothing (s.Block xs line last) h m ≡ false → Means c next need cs (body_deed xs h m) → Means c next need cs (stmt_deed (s.Block xs line last) h m)
+  block_means : (xs : List Stmt) (line last : ℕ) (h : Here) (cs : List Code) → nothing_in (s.Block xs line last) h ctx ≡ false → Means c next need cs (body_deed xs h ctx) → Means c next need cs (stmt_deed (s.Block xs line last) h ctx)
   block_means xs line last h cs some a room inputs sc vars p le fits given_fit u named =
-      (body_performs c room inputs p m vars).block xs line last h cs some
+      (body_performs c room inputs p ctx vars).block xs line last h cs some
       (a room inputs sc vars p le fits given_fit (suits_as c next sc vars p _ (bindings_of_all xs) _ (write_all xs) (block_bound xs line last) (block_written xs line last) u) (block_named xs line last sc named))
 
-  module _ (test : Expr) (xs : List Stmt) (line last : ℕ) (h : Here) (cs : List Code) (some : is_nothing (s.Cond test xs line last) h m ≡ false) (a : Means c next need cs (body_deed xs (behind_test test h) m))
+  module _ (test : Expr) (xs : List Stmt) (line last : ℕ) (h : Here) (cs : List Code) (some : nothing_in (s.Cond test xs line last) h ctx ≡ false) (a : Means c next need cs (body_deed xs (behind_test test h) ctx))
       (room : ℕ) (inputs : List Storage) (sc : Scope) (vars : Numbers) (p : Place) (le : need ≤ room) (fits : FitHeaders c.program.headers c.dims) (given_fit : FitProgram c inputs)
       (u : Suits c next (bindings_of (s.Cond test xs line last)) (writes (s.Cond test xs line last)) sc vars p) (named : is_named (s.Cond test xs line last) sc ≡ true) where
-    chosen_does : DoesBody c room inputs p cs xs (behind_test test h) m vars
+    chosen_does : DoesBody c room inputs p cs xs (behind_test test h) ctx vars
     chosen_does =
         a room inputs sc vars p le fits given_fit
         (suits_as c next sc vars p _ (bindings_of_all xs) _ (write_all xs) (cond_bound xs line last test) (cond_written xs line last test) u)
         (right (is_named_expr test sc) (are_named xs sc) (cond_named xs line last test sc named))
 
-    known_does : (n : ℤ) → test_rest test h m ≡ Some n → DoesStmt c room inputs p cs (s.Cond test xs line last) h m vars
-    known_does n e = (body_performs c room inputs p m vars).known test xs line last h n cs some e chosen_does
+    known_does : (n : ℤ) → test_at test h ctx ≡ Some n → DoesStmt c room inputs p cs (s.Cond test xs line last) h ctx vars
+    known_does n e = (body_performs c room inputs p ctx vars).known test xs line last h n cs some e chosen_does
 
-    asked_does : test_rest test h m ≡ None → end_of (value_code (heads_in c) test next) ≤ need → DoesStmt c room inputs p (cond_code (value_code (heads_in c) test next) cs ∷ []) (s.Cond test xs line last) h m vars
+    asked_does : test_at test h ctx ≡ None → end_of (value_code (heads_in c) test next) ≤ need → DoesStmt c room inputs p (cond_code (value_code (heads_in c) test next) cs ∷ []) (s.Cond test xs line last) h ctx vars
     asked_does e enough =
         let fine : end_of (value_code (heads_in c) test p.next) ≤ room = subst (λ (n : ℕ). end_of (value_code (heads_in c) test n) ≤ room) (sym u.next_is) (omega (arith, enough, le)) in
-        subst (λ (n : ℕ). DoesStmt c room inputs p (cond_code (value_code (heads_in c) test n) cs ∷ []) (s.Cond test xs line last) h m vars) u.next_is
-        (tests_perform c room inputs sc vars p fits given_fit u.stands test xs line last h m cs (left (is_named_expr test sc) (are_named xs sc) (cond_named xs line last test sc named)) fine some e chosen_does)
+        subst (λ (n : ℕ). DoesStmt c room inputs p (cond_code (value_code (heads_in c) test n) cs ∷ []) (s.Cond test xs line last) h ctx vars) u.next_is
+        (tests_perform c room inputs sc vars p fits given_fit u.stands test xs line last h ctx cs (left (is_named_expr test sc) (are_named xs sc) (cond_named xs line last test sc named)) fine some e chosen_does)
 
   -- ---- lets
-  module _ (var : ℕ) (value : Expr) (xs : List Stmt) (line last : ℕ) (h : Here) (cs : List Code) (some : is_nothing (s.Bind var value xs line last) h m ≡ false)
+  module _ (var : ℕ) (value : Expr) (xs : List Stmt) (line last : ℕ) (h : Here) (cs : List Code) (some : nothing_in (s.Bind var value xs line last) h ctx ≡ false)
       (room : ℕ) (inputs : List Storage) (sc : Scope) (vars : Numbers) (p : Place) (le : need ≤ room) (low : next ≤ need) (fits : FitHeaders c.program.headers c.dims) (given_fit : FitProgram c inputs)
       (u : Suits c next (bindings_of (s.Bind var value xs line last)) (writes (s.Bind var value xs line last)) sc vars p) (named : is_named (s.Bind var value xs line last) sc ≡ true) where
     names : (is_named_expr value sc && are_named xs (within_let sc var)) ≡ true
@@ -180,7 +177,7 @@ module _ (c : Checked) (next need : ℕ) (m : Marks) where
     inner_is : (z : ℤ) → InsideStands c sc vars p (binds_inside c next sc vars p var) var z
     inner_is z = inside_is c next sc vars p var z (bindings_of_all xs) (write_all xs) bound_suits
 
-    inner_does : (o : _) (z : ℤ) → Means c next need cs (body_deed xs (behind value h) (binding m var o)) → DoesBody c room inputs (inner z) cs xs (behind value h) (binding m var o) (slice_set vars var z)
+    inner_does : (o : _) (z : ℤ) → Means c next need cs (body_deed xs (behind value h) (inside ctx var o)) → DoesBody c room inputs (inner z) cs xs (behind value h) (inside ctx var o) (slice_set vars var z)
     inner_does o z a =
         a room inputs (within_let sc var) (slice_set vars var z) (inner z) le fits given_fit (suits_inside c next sc vars p var z (bindings_of_all xs) (write_all xs) bound_suits)
         (right (is_named_expr value sc) (are_named xs (within_let sc var)) names)
@@ -188,18 +185,18 @@ module _ (c : Checked) (next need : ℕ) (m : Marks) where
     lets : LetPerforms c room inputs sc vars p var
     lets = let b = bound_suits.may_bind.0 in let_performs c room inputs sc vars p var fits given_fit u.stands (omega (arith, b.below, u.next_is, low, le)) b.binds
 
-    literal_does : (n : ℤ) → (expr_rest value h.read m).literal ≡ Some n → Means c next need cs (body_deed xs (behind value h) (binding m var (Some n)))
-        → DoesStmt c room inputs p (literal_code var n cs ∷ []) (s.Bind var value xs line last) h m vars
-    literal_does n e a = lets.literal (inner n) value xs line last h m n cs some e (inner_is n).inside (inner_does (Some n) n a)
+    literal_does : (n : ℤ) → literal_at value h ctx ≡ Some n → Means c next need cs (body_deed xs (behind value h) (inside ctx var (Some n)))
+        → DoesStmt c room inputs p (literal_code var n cs ∷ []) (s.Bind var value xs line last) h ctx vars
+    literal_does n e a = lets.literal (inner n) value xs line last h ctx n cs some e (inner_is n).inside (inner_does (Some n) n a)
 
-    evaluated_does : (expr_rest value h.read m).literal ≡ None → end_of (value_code (heads_in c) value next) ≤ need → Means c next need cs (body_deed xs (behind value h) (binding m var None))
-        → DoesStmt c room inputs p (let_code var (value_code (heads_in c) value next) cs ∷ []) (s.Bind var value xs line last) h m vars
+    evaluated_does : literal_at value h ctx ≡ None → end_of (value_code (heads_in c) value next) ≤ need → Means c next need cs (body_deed xs (behind value h) (inside ctx var None))
+        → DoesStmt c room inputs p (let_code var (value_code (heads_in c) value next) cs ∷ []) (s.Bind var value xs line last) h ctx vars
     evaluated_does e enough a =
         let fine : end_of (value_code (heads_in c) value p.next) ≤ room = subst (λ (n : ℕ). end_of (value_code (heads_in c) value n) ≤ room) (sym u.next_is) (omega (arith, enough, le)) in
-        subst (λ (n : ℕ). DoesStmt c room inputs p (let_code var (value_code (heads_in c) value n) cs ∷ []) (s.Bind var value xs line last) h m vars) u.next_is
-        (lets.evaluated inner value xs line last h m cs (left (is_named_expr value sc) (are_named xs (within_let sc var)) names) fine some e (λ z. (inner_is z).inside) (λ z. inner_does None z a))
+        subst (λ (n : ℕ). DoesStmt c room inputs p (let_code var (value_code (heads_in c) value n) cs ∷ []) (s.Bind var value xs line last) h ctx vars) u.next_is
+        (lets.evaluated inner value xs line last h ctx cs (left (is_named_expr value sc) (are_named xs (within_let sc var)) names) fine some e (λ z. (inner_is z).inside) (λ z. inner_does None z a))
 
-  bodies : MeansBodies c next need m
+  bodies : MeansBodies c next need ctx
   bodies = record {
     block = block_means;
     known = λ test xs line last h n cs some e a room inputs sc vars p le fits given_fit u named. known_does test xs line last h cs some a room inputs sc vars p le fits given_fit u named n e;
@@ -211,4 +208,4 @@ module _ (c : Checked) (next need : ℕ) (m : Marks) where
   }
 
 pub meanings_compose : MeaningsCompose
-meanings_compose c next need m = (parts c next need m, leaves c next need m, bodies c next need m)
+meanings_compose c next need ctx = (parts c next need ctx, leaves c next need ctx, bodies c next need ctx)

@@ -16,59 +16,56 @@ use Rattle.fin_ir.specs.Value.{value_in}
 use Rattle.fin_read.specs.Values.{value_code}
 use Rattle.fin_nest.specs.Performs.{Place, Hold, Stay}
 use Rattle.fin_simp.specs.Numbered.{Here, behind, behind_test, past_stmt, past_all}
-use Rattle.fin_simp.specs.Left.{Marks, binding}
-use Rattle.fin_simp.specs.Remaining.{is_nothing}
-use Rattle.fin_simp.specs.Rest.{expr_rest, test_rest}
-use Rattle.fin_simp.specs.Work.{world_of}
+use Rattle.fin_simp.specs.Work.{Context, world_of, inside}
 use Rattle.fin_perform.specs.Codes.{cond_code, literal_code, let_code, end_of}
 use Rattle.fin_perform.specs.Layouts.{heads_in}
 use Rattle.fin_perform.specs.Standing.{StandsIn}
 use Rattle.fin_perform.specs.Performing.{Does, DoesStmt}
-use Rattle.fin_perform.specs.Working.{turns_of, body_of}
+use Rattle.fin_perform.specs.Working.{turns_of, body_of, nothing_in, literal_at, test_at}
 
 -- the codes do what these statements do one after another; what the body of them does
-abbrev pub DoesTurns : Checked → ℕ → List Storage → Place → List Code → List Stmt → Here → Marks → Numbers → Type 0
-DoesTurns c room inputs p cs xs h m vars = Does c room inputs p cs (turns_of (world_of c inputs) xs h m vars)
+abbrev pub DoesTurns : Checked → ℕ → List Storage → Place → List Code → List Stmt → Here → Context → Numbers → Type 0
+DoesTurns c room inputs p cs xs h ctx vars = Does c room inputs p cs (turns_of (world_of c inputs) xs h ctx vars)
 
-abbrev pub DoesBody : Checked → ℕ → List Storage → Place → List Code → List Stmt → Here → Marks → Numbers → Type 0
-DoesBody c room inputs p cs xs h m vars = Does c room inputs p cs (body_of (world_of c inputs) xs h m vars)
+abbrev pub DoesBody : Checked → ℕ → List Storage → Place → List Code → List Stmt → Here → Context → Numbers → Type 0
+DoesBody c room inputs p cs xs h ctx vars = Does c room inputs p cs (body_of (world_of c inputs) xs h ctx vars)
 
 -- ---- bodies, blocks, and what is chosen by a test that is known
 
-pub record BodyPerforms (c : Checked) (room : ℕ) (inputs : List Storage) (p : Place) (m : Marks) (vars : Numbers) : Type 0 where
-  pub nothing : (h : Here) → DoesTurns c room inputs p [] [] h m vars
+pub record BodyPerforms (c : Checked) (room : ℕ) (inputs : List Storage) (p : Place) (ctx : Context) (vars : Numbers) : Type 0 where
+  pub nothing : (h : Here) → DoesTurns c room inputs p [] [] h ctx vars
   -- one more before the others, or behind them
   pub next : (x : Stmt) (xs : List Stmt) (h : Here) (cs ds : List Code) → Stay p p.facts
-      → DoesStmt c room inputs p cs x h m vars → DoesTurns c room inputs p ds xs (past_stmt x h) m vars
-      → DoesTurns c room inputs p (cs ++ ds) (x ∷ xs) h m vars
+      → DoesStmt c room inputs p cs x h ctx vars → DoesTurns c room inputs p ds xs (past_stmt x h) ctx vars
+      → DoesTurns c room inputs p (cs ++ ds) (x ∷ xs) h ctx vars
   pub last : (xs : List Stmt) (x : Stmt) (h : Here) (cs ds : List Code) → Stay p p.facts
-      → DoesTurns c room inputs p cs xs h m vars → DoesStmt c room inputs p ds x (past_all (map past_stmt xs) h) m vars
-      → DoesTurns c room inputs p (cs ++ ds) (xs ++ x ∷ []) h m vars
-  pub body : (xs : List Stmt) (h : Here) (cs : List Code) → DoesTurns c room inputs p cs xs h m vars
-      → DoesBody c room inputs p cs xs h m vars
+      → DoesTurns c room inputs p cs xs h ctx vars → DoesStmt c room inputs p ds x (past_all (map past_stmt xs) h) ctx vars
+      → DoesTurns c room inputs p (cs ++ ds) (xs ++ x ∷ []) h ctx vars
+  pub body : (xs : List Stmt) (h : Here) (cs : List Code) → DoesTurns c room inputs p cs xs h ctx vars
+      → DoesBody c room inputs p cs xs h ctx vars
   pub block : (xs : List Stmt) (line last : ℕ) (h : Here) (cs : List Code)
-      → is_nothing (s.Block xs line last) h m ≡ false → DoesBody c room inputs p cs xs h m vars
-      → DoesStmt c room inputs p cs (s.Block xs line last) h m vars
+      → nothing_in (s.Block xs line last) h ctx ≡ false → DoesBody c room inputs p cs xs h ctx vars
+      → DoesStmt c room inputs p cs (s.Block xs line last) h ctx vars
   -- a test that is known isn't asked
   pub known : (test : Expr) (xs : List Stmt) (line last : ℕ) (h : Here) (n : ℤ) (cs : List Code)
-      → is_nothing (s.Cond test xs line last) h m ≡ false → test_rest test h m ≡ Some n
-      → DoesBody c room inputs p cs xs (behind_test test h) m vars
-      → DoesStmt c room inputs p cs (s.Cond test xs line last) h m vars
+      → nothing_in (s.Cond test xs line last) h ctx ≡ false → test_at test h ctx ≡ Some n
+      → DoesBody c room inputs p cs xs (behind_test test h) ctx vars
+      → DoesStmt c room inputs p cs (s.Cond test xs line last) h ctx vars
 
 abbrev pub BodiesPerform : Type 0
-BodiesPerform = (c : Checked) (room : ℕ) (inputs : List Storage) (p : Place) (m : Marks) (vars : Numbers)
-    → BodyPerforms c room inputs p m vars
+BodiesPerform = (c : Checked) (room : ℕ) (inputs : List Storage) (p : Place) (ctx : Context) (vars : Numbers)
+    → BodyPerforms c room inputs p ctx vars
 
 -- ---- tests that are asked
 
 abbrev pub TestsPerform : Type 0
 TestsPerform = (c : Checked) (room : ℕ) (inputs : List Storage) (sc : Scope) (vars : Numbers) (p : Place)
     → FitHeaders c.program.headers c.dims → FitProgram c inputs → StandsIn c sc vars p
-    → (test : Expr) (xs : List Stmt) (line last : ℕ) (h : Here) (m : Marks) (cs : List Code)
+    → (test : Expr) (xs : List Stmt) (line last : ℕ) (h : Here) (ctx : Context) (cs : List Code)
     → is_named_expr test sc ≡ true → end_of (value_code (heads_in c) test p.next) ≤ room
-    → is_nothing (s.Cond test xs line last) h m ≡ false → test_rest test h m ≡ None
-    → DoesBody c room inputs p cs xs (behind_test test h) m vars
-    → DoesStmt c room inputs p (cond_code (value_code (heads_in c) test p.next) cs ∷ []) (s.Cond test xs line last) h m vars
+    → nothing_in (s.Cond test xs line last) h ctx ≡ false → test_at test h ctx ≡ None
+    → DoesBody c room inputs p cs xs (behind_test test h) ctx vars
+    → DoesStmt c room inputs p (cond_code (value_code (heads_in c) test p.next) cs ∷ []) (s.Cond test xs line last) h ctx vars
 
 -- ---- lets
 
@@ -81,16 +78,16 @@ pub record IsInside (p q : Place) (var : ℕ) (z : ℤ) : Type 0 where
 
 -- A let of a literal assigns it; any other is evaluated. The code of the body stands inside, whatever the value.
 pub record LetPerforms (c : Checked) (room : ℕ) (inputs : List Storage) (sc : Scope) (vars : Numbers) (p : Place) (var : ℕ) : Type 0 where
-  pub literal : (q : Place) (value : Expr) (xs : List Stmt) (line last : ℕ) (h : Here) (m : Marks) (n : ℤ) (cs : List Code)
-      → is_nothing (s.Bind var value xs line last) h m ≡ false → (expr_rest value h.read m).literal ≡ Some n → IsInside p q var n
-      → DoesBody c room inputs q cs xs (behind value h) (binding m var (Some n)) (slice_set vars var n)
-      → DoesStmt c room inputs p (literal_code var n cs ∷ []) (s.Bind var value xs line last) h m vars
-  pub evaluated : (q : ℤ → Place) (value : Expr) (xs : List Stmt) (line last : ℕ) (h : Here) (m : Marks) (cs : List Code)
+  pub literal : (q : Place) (value : Expr) (xs : List Stmt) (line last : ℕ) (h : Here) (ctx : Context) (n : ℤ) (cs : List Code)
+      → nothing_in (s.Bind var value xs line last) h ctx ≡ false → literal_at value h ctx ≡ Some n → IsInside p q var n
+      → DoesBody c room inputs q cs xs (behind value h) (inside ctx var (Some n)) (slice_set vars var n)
+      → DoesStmt c room inputs p (literal_code var n cs ∷ []) (s.Bind var value xs line last) h ctx vars
+  pub evaluated : (q : ℤ → Place) (value : Expr) (xs : List Stmt) (line last : ℕ) (h : Here) (ctx : Context) (cs : List Code)
       → is_named_expr value sc ≡ true → end_of (value_code (heads_in c) value p.next) ≤ room
-      → is_nothing (s.Bind var value xs line last) h m ≡ false → (expr_rest value h.read m).literal ≡ None
+      → nothing_in (s.Bind var value xs line last) h ctx ≡ false → literal_at value h ctx ≡ None
       → ((z : ℤ) → IsInside p (q z) var z)
-      → ((z : ℤ) → DoesBody c room inputs (q z) cs xs (behind value h) (binding m var None) (slice_set vars var z))
-      → DoesStmt c room inputs p (let_code var (value_code (heads_in c) value p.next) cs ∷ []) (s.Bind var value xs line last) h m vars
+      → ((z : ℤ) → DoesBody c room inputs (q z) cs xs (behind value h) (inside ctx var None) (slice_set vars var z))
+      → DoesStmt c room inputs p (let_code var (value_code (heads_in c) value p.next) cs ∷ []) (s.Bind var value xs line last) h ctx vars
 
 abbrev pub LetsPerform : Type 0
 LetsPerform = (c : Checked) (room : ℕ) (inputs : List Storage) (sc : Scope) (vars : Numbers) (p : Place) (var : ℕ)
