@@ -10,6 +10,7 @@ pub mod Inside
 pub mod Leaves
 pub mod Lets
 pub mod Meanings
+pub mod Programs
 pub mod Putting
 pub mod Scoped
 pub mod Seen

@@ -9,3 +9,4 @@ pub mod Inside
 pub mod Places
 pub mod Meanings
 pub mod Built
+pub mod Programs

@@ -3,6 +3,7 @@ ghost use Rattle.fin_perform.specs.Begun.{BegunMachinesStand};
 ghost use Rattle.fin_perform.specs.Bodies.{BodiesPerform, TestsPerform, LetsPerform};
 ghost use Rattle.fin_perform.specs.Inside.{PlacesInside};
 ghost use Rattle.fin_perform.specs.Meanings.{MeaningsCompose};
+ghost use Rattle.fin_perform.specs.Programs.{ProgramsStand};
 ghost use Rattle.fin_perform.specs.Performing.{NothingPerforms, LeavesPerform};
 
 /// Over inputs that fit a program they fit its layout, with any number of locals, and the first machine does what the run
@@ -48,4 +49,10 @@ pub fn places_inside()
 /// statements without bodies, and of blocks, tests and lets.
 pub fn meanings_compose()
     ensures { MeaningsCompose }
+{}
+
+/// Codes that mean a program's statements outside all loops lead from the first machine to one that does what the run by
+/// pieces does, over inputs that fit an accepted program.
+pub fn programs_stand()
+    ensures { ProgramsStand }
 {}

@@ -20,7 +20,8 @@
 //! and `lets_perform` put the codes of a body together, from what each of its statements performs. `meanings_compose` says
 //! the same of codes that mean statements wherever they may stand (`specs/Meanings.antt`), from a first free local on: at
 //! each place that suits the statement (`specs/Places.antt`), over any inputs, with at least as many locals as they need.
-//! A loop's code that means its loop fits in beside them.
+//! A loop's code that means its loop fits in beside them. By `programs_stand` the codes that mean all statements of a
+//! program lead from the first machine to one that does what the run by pieces does.
 #![tactic(auto)]
 
 mod around;
@@ -30,7 +31,7 @@ mod single;
 pub use around::{Let, cond_code, let_code, literal_code};
 pub use laws::{
     begun_machines_stand, bodies_perform, leaves_perform, lets_perform, meanings_compose,
-    nothing_performs, places_inside, tests_perform,
+    nothing_performs, places_inside, programs_stand, tests_perform,
 };
 pub use single::{
     Placed, Update, declare_code, freeze_code, next_local, push_charge, push_update, thaw_code,
