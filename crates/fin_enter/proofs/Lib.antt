@@ -1,1 +1,4 @@
 pub mod Positions
+pub mod Standing
+pub mod Charges
+pub mod Bounds

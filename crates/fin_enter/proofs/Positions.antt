@@ -32,7 +32,7 @@ use Rattle.fin_enter.specs.Positions.{position_steps, spot_in, IsPlaced, ArePlac
 
 -- ---- no position
 
-below_nothing : (vars : Numbers) (ns : List ℕ) (ps : List Part) (is : List Index) (k : ℕ) → stand_at vars ns ps is k None ≡ Nowhere
+pub below_nothing : (vars : Numbers) (ns : List ℕ) (ps : List Part) (is : List Index) (k : ℕ) → stand_at vars ns ps is k None ≡ Nowhere
 below_nothing vars [] ps is k = refl
 below_nothing vars (n ∷ ns) [] is k = refl
 below_nothing vars (n ∷ ns) (p ∷ ps) [] k = refl

@@ -1,8 +1,35 @@
 //! What is proved of a loop's entry.
 ghost use Rattle.fin_enter.specs.Positions.{PositionsAreFound};
+ghost use Rattle.fin_enter.specs.Charges.{EntriesArePaid, LengthsMean};
+ghost use Rattle.fin_enter.specs.Bounds.{BoundsAreFree, BoundsMean};
+
+use fin_read::values_mean;
 
 /// The steps through the levels before a driven one leave in a local the position at which the read stands, or -1 where
 /// it stands nowhere, and leave the locals before as they were.
 pub fn positions_are_found()
     ensures { PositionsAreFound }
 {}
+
+/// Where a read's position is in a local, the code of its stored length has the length that a loop over it is charged
+/// for.
+pub fn lengths_mean()
+    ensures { LengthsMean }
+{}
+
+/// The codes of the charge pay what the definition of work has for the entry of the loop, and do nothing else.
+pub fn entries_are_paid()
+    ensures { EntriesArePaid }
+{}
+
+/// The bound of a mask asks for no tensor, and its value is the same whatever these hold.
+pub fn bounds_are_free()
+    ensures { BoundsAreFree }
+{}
+
+/// The code of a mask's bound has the value that the definition of work compares with.
+pub fn bounds_mean()
+    ensures { BoundsMean }
+{
+    values_mean();
+}

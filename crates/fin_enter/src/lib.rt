@@ -1,9 +1,11 @@
 //! The entry of a loop, as loop code: what stands before its nest.
 //!
 //! A loop's looplets ask where its driven reads stand. `specs/Positions.antt` has the steps that find the position to
-//! which the indices that are bound lead, level by level, and leave it in a local.
+//! which the indices that are bound lead, level by level, and leave it in a local. `specs/Charges.antt` has the charge of
+//! the entry: what is known where the code is made, and the stored lengths of the fibres at these positions.
+//! `specs/Bounds.antt` says that the bounds of masks need no tensor.
 #![tactic(auto)]
 
 mod laws;
 
-pub use laws::positions_are_found;
+pub use laws::{bounds_are_free, bounds_mean, entries_are_paid, lengths_mean, positions_are_found};
