@@ -1,3 +1,5 @@
 pub mod Positions
 pub mod Charges
 pub mod Bounds
+pub mod Stores
+pub mod Sites

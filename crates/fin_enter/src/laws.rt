@@ -2,7 +2,10 @@
 ghost use Rattle.fin_enter.specs.Positions.{PositionsAreFound};
 ghost use Rattle.fin_enter.specs.Charges.{EntriesArePaid, LengthsMean};
 ghost use Rattle.fin_enter.specs.Bounds.{BoundsAreFree, BoundsMean};
+ghost use Rattle.fin_enter.specs.Stores.{TensorsAreStored, TensorsHaveFormats};
+ghost use Rattle.fin_enter.specs.Sites.{FootedReadsStand};
 
+use fin_drive::distances_mean;
 use fin_read::values_mean;
 
 /// The steps through the levels before a driven one leave in a local the position at which the read stands, or -1 where
@@ -32,4 +35,22 @@ pub fn bounds_mean()
     ensures { BoundsMean }
 {
     values_mean();
+}
+
+/// Each tensor of a program has the format of its header, with as many extents as levels, none of which is too large.
+pub fn tensors_have_formats()
+    ensures { TensorsHaveFormats }
+{}
+
+/// A tensor that a run can read is frozen on a machine that does what the run does, with the shape and the parts that the
+/// definition of work has.
+pub fn tensors_are_stored()
+    ensures { TensorsAreStored }
+{}
+
+/// A driven read whose position is in a local below two that its looplet owns stands as the nest of its loop asks.
+pub fn footed_reads_stand()
+    ensures { FootedReadsStand }
+{
+    distances_mean();
 }

@@ -3,9 +3,13 @@
 //! A loop's looplets ask where its driven reads stand. `specs/Positions.antt` has the steps that find the position to
 //! which the indices that are bound lead, level by level, and leave it in a local. `specs/Charges.antt` has the charge of
 //! the entry: what is known where the code is made, and the stored lengths of the fibres at these positions.
-//! `specs/Bounds.antt` says that the bounds of masks need no tensor.
+//! `specs/Bounds.antt` says that the bounds of masks need no tensor. `specs/Stores.antt` has the tensors of a machine as a
+//! run has them, and `specs/Sites.antt` what a driven read's looplet asks of them and of these locals.
 #![tactic(auto)]
 
 mod laws;
 
-pub use laws::{bounds_are_free, bounds_mean, entries_are_paid, lengths_mean, positions_are_found};
+pub use laws::{
+    bounds_are_free, bounds_mean, entries_are_paid, footed_reads_stand, lengths_mean,
+    positions_are_found, tensors_are_stored, tensors_have_formats,
+};

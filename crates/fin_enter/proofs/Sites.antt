@@ -1,0 +1,84 @@
+-- Behind the steps that find its position a driven read stands as its looplet asks.
+use Rattle.std.proofs.Common.{◌≡◌, ℕ, zero, suc, ◌+◌, ◌<◌, ◌≤◌, ◌^◌, Bool, true, false, List, [], ◌∷◌, length, Option, Some, None, refl, subst, ℤ, arith, if◌then◌else◌}
+use Rattle.std.specs.Prelude.{nat_le, nat_eq, slice_index_or}
+use Rattle.fin_tensor.specs.declared.format.Format.{Format}
+use Rattle.fin_tensor.specs.Levels.{AreSmall}
+use Rattle.fin_ast.specs.declared.tree.Index.{Index}
+use Rattle.fin_ast.specs.Value.{Numbers}
+use Rattle.fin_ir.specs.declared.expression.IExpr.TheVariants as e
+use Rattle.fin_looplet.proofs.Exprs.{names_local}
+use Rattle.fin_unfurl.specs.Fibres.{IsApart}
+use Rattle.fin_simp.specs.Rest.{Access}
+use Rattle.fin_simp.specs.Sights.{behind_index, one_deeper, driven_index}
+use Rattle.fin_simp.specs.Work.{is_in}
+use Rattle.fin_drive.specs.Looplets.{other}
+use Rattle.fin_drive.specs.Standing.{OtherIs, DistancesMean}
+use Rattle.fin_drive.specs.Entries.{Entry, IsHeld, IsSite, reading_of}
+use Rattle.fin_enter.specs.Sites.{IsCoordinate, IsFooted, site_of, FootedReadsStand}
+
+-- ---- the level of a driven index
+
+deeper_within : (n : ℕ) (later : Option (ℕ × Index)) (d : ℕ × Index) → ((x : ℕ × Index) → later ≡ Some x → x.0 < n) → one_deeper later ≡ Some d → d.0 < suc n
+deeper_within n None d h e = cc
+deeper_within n (Some x) d h e =
+    let y : ◌≡◌ {A = Option (ℕ × Index)} (Some (x.0 + 1, x.1)) (Some d) = e in
+    let same : (x.0 + 1, x.1) ≡ d = cc in
+    subst (λ (z : ℕ × Index). z.0 < suc n) same (omega (arith, h x refl))
+
+within_by : (n : ℕ) (i : Index) (later : Option (ℕ × Index)) (d : ℕ × Index) → ((x : ℕ × Index) → later ≡ Some x → x.0 < n) → (a b : Bool)
+    → (if a then one_deeper later else (if b then Some (0, i) else None)) ≡ Some d → d.0 < suc n
+within_by n i later d h true b e = deeper_within n later d h e
+within_by n i later d h false true e =
+    let y : ◌≡◌ {A = Option (ℕ × Index)} (Some (0, i)) (Some d) = e in
+    let same : (0, i) ≡ d = cc in
+    subst (λ (z : ℕ × Index). z.0 < suc n) same (omega arith)
+within_by n i later d h false false e = cc
+
+driven_within : (var : ℕ) (is : List Index) (d : ℕ × Index) → driven_index var is ≡ Some d → d.0 < length is
+driven_within var [] d e = cc
+driven_within var (i ∷ is) d e = within_by (length is) i (driven_index var is) d (λ x. driven_within var is x) (nat_le (behind_index i) var) (nat_eq (behind_index i) (var + 1)) e
+
+small_at : (ns : List ℕ) (k : ℕ) → AreSmall ns → slice_index_or ns k 0 ≤ 2 ^ 40
+small_at [] k h = omega arith
+small_at (n ∷ ns) zero h = h 0 (omega arith)
+small_at (n ∷ ns) (suc k) h = small_at ns k (λ j lt. h (suc j) (omega (arith, lt)))
+
+-- ---- the other variable
+
+module _ (vars : Numbers) (ls : List ℤ) where
+  others_are : (o : Option ℕ) → ((x : ℕ) → o ≡ Some x → IsCoordinate vars ls x) → (k : ℕ) × OtherIs vars o k × OtherIs ls o k
+  others_are None h = (0, refl, refl)
+  others_are (Some x) h = let q = h x refl in (q.0, (q.1, q.3), (q.2, q.3))
+
+-- ---- the place
+
+local_apart : (at cursor : ℕ) → at < cursor → IsApart cursor (e.Local at)
+local_apart at cursor lt = (
+  λ n. let same = names_local cursor at n in absurd (omega (arith, lt, same)),
+  λ n. let same = names_local (cursor + 1) at n in absurd (omega (arith, lt, same)),
+)
+
+module _ (distance : DistancesMean) (x : Entry) (a : Access) (d : ℕ × Index) (format : Format) (at cursor : ℕ) (h : IsFooted x a d format at cursor) where
+  held_as : is_in x.rest.changed a.tensor ≡ false → IsHeld x a d (site_of x a d format at cursor)
+  held_as same =
+      let s = h.store same in
+      record { frozen = s.frozen; is = s.is; shape = s.shape; parts = s.parts; few = h.has.few; valid = s.valid; room = h.room; found = h.found same }
+
+  footed : IsSite x a d (site_of x a d format at cursor)
+  footed =
+      let reading = reading_of x a d cursor in
+      let q = others_are x.loop.vars x.locals (other reading) h.numbers in
+      record {
+        fill = h.has.fill;
+        level = omega (arith, driven_within x.loop.loop.var a.at d h.driven, h.each);
+        small = small_at _ d.0 h.has.small;
+        apart = local_apart at cursor h.below;
+        stays = h.stays;
+        other_number = q.0;
+        others = q.1;
+        behind = distance x.store x.locals reading q.0 q.2;
+        held = held_as;
+      }
+
+pub footed_reads_stand : DistancesMean → FootedReadsStand
+footed_reads_stand distance x a d format at cursor h = footed distance x a d format at cursor h
