@@ -5,3 +5,4 @@ pub mod Bounds
 pub mod Given
 pub mod Stores
 pub mod Sites
+pub mod Indices

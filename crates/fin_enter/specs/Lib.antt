@@ -3,3 +3,4 @@ pub mod Charges
 pub mod Bounds
 pub mod Stores
 pub mod Sites
+pub mod Indices

@@ -4,6 +4,7 @@ ghost use Rattle.fin_enter.specs.Charges.{EntriesArePaid, LengthsMean};
 ghost use Rattle.fin_enter.specs.Bounds.{BoundsAreFree, BoundsMean};
 ghost use Rattle.fin_enter.specs.Stores.{TensorsAreStored, TensorsHaveFormats};
 ghost use Rattle.fin_enter.specs.Sites.{FootedReadsStand};
+ghost use Rattle.fin_enter.specs.Indices.{IndicesAreBound};
 
 use fin_drive::distances_mean;
 use fin_read::values_mean;
@@ -54,3 +55,9 @@ pub fn footed_reads_stand()
 {
     distances_mean();
 }
+
+/// The codes of the indices before a driven level have the places at which they point, and the driven index's other
+/// variable is one whose number is a coordinate.
+pub fn indices_are_bound()
+    ensures { IndicesAreBound }
+{}
