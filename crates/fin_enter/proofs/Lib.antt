@@ -6,3 +6,4 @@ pub mod Given
 pub mod Stores
 pub mod Sites
 pub mod Indices
+pub mod Together

@@ -34,7 +34,7 @@ within_by n i later d h false true e =
     subst (λ (z : ℕ × Index). z.0 < suc n) same (omega arith)
 within_by n i later d h false false e = cc
 
-driven_within : (var : ℕ) (is : List Index) (d : ℕ × Index) → driven_index var is ≡ Some d → d.0 < length is
+pub driven_within : (var : ℕ) (is : List Index) (d : ℕ × Index) → driven_index var is ≡ Some d → d.0 < length is
 driven_within var [] d e = cc
 driven_within var (i ∷ is) d e = within_by (length is) i (driven_index var is) d (λ x. driven_within var is x) (nat_le (behind_index i) var) (nat_eq (behind_index i) (var + 1)) e
 

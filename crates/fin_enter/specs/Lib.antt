@@ -4,3 +4,4 @@ pub mod Bounds
 pub mod Stores
 pub mod Sites
 pub mod Indices
+pub mod Together

@@ -5,6 +5,7 @@ ghost use Rattle.fin_enter.specs.Bounds.{BoundsAreFree, BoundsMean};
 ghost use Rattle.fin_enter.specs.Stores.{TensorsAreStored, TensorsHaveFormats};
 ghost use Rattle.fin_enter.specs.Sites.{FootedReadsStand};
 ghost use Rattle.fin_enter.specs.Indices.{IndicesAreBound};
+ghost use Rattle.fin_enter.specs.Together.{AllPositionsAreFound};
 
 use fin_drive::distances_mean;
 use fin_read::values_mean;
@@ -60,4 +61,10 @@ pub fn footed_reads_stand()
 /// variable is one whose number is a coordinate.
 pub fn indices_are_bound()
     ensures { IndicesAreBound }
+{}
+
+/// The steps of all driven reads that stand before the body is run leave each position in a local of its own, where the
+/// loops around have their coordinates in locals and the tensors are frozen.
+pub fn all_positions_are_found()
+    ensures { AllPositionsAreFound }
 {}

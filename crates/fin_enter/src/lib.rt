@@ -10,6 +10,6 @@
 mod laws;
 
 pub use laws::{
-    bounds_are_free, bounds_mean, entries_are_paid, footed_reads_stand, indices_are_bound,
-    lengths_mean, positions_are_found, tensors_are_stored, tensors_have_formats,
+    all_positions_are_found, bounds_are_free, bounds_mean, entries_are_paid, footed_reads_stand,
+    indices_are_bound, lengths_mean, positions_are_found, tensors_are_stored, tensors_have_formats,
 };
