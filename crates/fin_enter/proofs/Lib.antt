@@ -7,3 +7,4 @@ pub mod Stores
 pub mod Sites
 pub mod Indices
 pub mod Together
+pub mod Entrances

@@ -5,3 +5,4 @@ pub mod Stores
 pub mod Sites
 pub mod Indices
 pub mod Together
+pub mod Entrances

@@ -6,6 +6,7 @@ ghost use Rattle.fin_enter.specs.Stores.{TensorsAreStored, TensorsHaveFormats};
 ghost use Rattle.fin_enter.specs.Sites.{FootedReadsStand};
 ghost use Rattle.fin_enter.specs.Indices.{IndicesAreBound};
 ghost use Rattle.fin_enter.specs.Together.{AllPositionsAreFound};
+ghost use Rattle.fin_enter.specs.Entrances.{EntrancesAreMade};
 
 use fin_drive::distances_mean;
 use fin_read::values_mean;
@@ -68,3 +69,11 @@ pub fn indices_are_bound()
 pub fn all_positions_are_found()
     ensures { AllPositionsAreFound }
 {}
+
+/// A nest over the coordinates of a loop, whose driven reads have their positions in locals, is one that is made for the
+/// loop where it is entered, and so does what the loop does.
+pub fn entrances_are_made()
+    ensures { EntrancesAreMade }
+{
+    distances_mean();
+}
