@@ -45,8 +45,8 @@ pub fn tensors_have_formats()
     ensures { TensorsHaveFormats }
 {}
 
-/// A tensor that a run can read is frozen on a machine that does what the run does, with the shape and the parts that the
-/// definition of work has.
+/// A tensor that a run can read is frozen on a machine that does what the run does, with the shape and the parts that
+/// the definition of work has.
 pub fn tensors_are_stored()
     ensures { TensorsAreStored }
 {}
@@ -70,8 +70,8 @@ pub fn all_positions_are_found()
     ensures { AllPositionsAreFound }
 {}
 
-/// A nest over the coordinates of a loop, whose driven reads have their positions in locals, is one that is made for the
-/// loop where it is entered, and so does what the loop does.
+/// A nest over the coordinates of a loop, whose driven reads have their positions in locals, is one that is made for
+/// the loop where it is entered, and so does what the loop does.
 pub fn entrances_are_made()
     ensures { EntrancesAreMade }
 {

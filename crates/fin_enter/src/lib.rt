@@ -1,17 +1,20 @@
 //! The entry of a loop, as loop code: what stands before its nest.
 //!
 //! A loop's looplets ask where its driven reads stand. `specs/Positions.antt` has the steps that find the position to
-//! which the indices that are bound lead, level by level, and leave it in a local. `specs/Charges.antt` has the charge of
-//! the entry: what is known where the code is made, and the stored lengths of the fibres at these positions.
-//! `specs/Bounds.antt` says that the bounds of masks need no tensor. `specs/Stores.antt` has the tensors of a machine as a
-//! run has them, and `specs/Sites.antt` what a driven read's looplet asks of them and of these locals. `specs/Together.antt`
-//! has the steps of all driven reads, one after another, and `specs/Entrances.antt` the nest behind them.
+//! which the indices that are bound lead, level by level, and leave it in a local; `specs/Indices.antt` says that the
+//! codes of these indices have their values, and `specs/Together.antt` has the steps of all driven reads, one after
+//! another. `specs/Charges.antt` has the charge of the entry: what is known where the code is made, and the stored
+//! lengths of the fibres at these positions, whose code `stored_length` makes. `specs/Bounds.antt` says that the bounds
+//! of masks need no tensor. `specs/Stores.antt` has the tensors of a machine as a run has them, `specs/Sites.antt` what
+//! a driven read's looplet asks of them and of these locals, and `specs/Entrances.antt` the nest behind them.
 #![tactic(auto)]
 
 mod laws;
+mod lengths;
 
 pub use laws::{
     all_positions_are_found, bounds_are_free, bounds_mean, entrances_are_made, entries_are_paid,
     footed_reads_stand, indices_are_bound, lengths_mean, positions_are_found, tensors_are_stored,
     tensors_have_formats,
 };
+pub use lengths::stored_length;
