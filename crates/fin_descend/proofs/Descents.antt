@@ -17,8 +17,8 @@ use Rattle.fin_nest.proofs.Both.{turns_are_free}
 use Rattle.fin_style_point.specs.declared.nest.Nest.{Nest}
 use Rattle.fin_style_point.specs.Parts.{course_of}
 use Rattle.fin_style_point.proofs.Both.{nothing_is_skipped}
-use Rattle.fin_descend.specs.declared.bodies.Lowered.{Lowered}
-use Rattle.fin_descend.specs.declared.bodies.Known.TheVariants.{Nothing, Open}
+use Rattle.fin_descend.specs.declared.lowered.Lowered.{Lowered}
+use Rattle.fin_descend.specs.declared.lowered.Known.TheVariants.{Nothing, Open}
 use Rattle.fin_descend.specs.declared.stepping.Split.{Split}
 use Rattle.fin_descend.specs.Parts.{weight_in, heaviest}
 use Rattle.fin_descend.specs.Promises.{Family, Stands, MeansIn, Tells, Divides, StaySeparate, MeanEach, Joins}

@@ -3,3 +3,4 @@ pub mod Steps
 pub mod Descents
 pub mod Jumpless
 pub mod Loops
+pub mod Cycle

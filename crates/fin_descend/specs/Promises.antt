@@ -14,9 +14,9 @@ use Rattle.fin_style_point.specs.declared.nest.Nest.{Nest}
 use Rattle.fin_style_point.specs.Steps.{AllFlat}
 use Rattle.fin_style_point.specs.Parts.{all_looplets, course_of}
 use Rattle.fin_style_step.specs.Laws.{CanJump}
-use Rattle.fin_descend.specs.declared.bodies.Lowered.{Lowered}
-use Rattle.fin_descend.specs.declared.bodies.Known.{Known}
-use Rattle.fin_descend.specs.declared.bodies.Known.TheVariants.{Nothing, AtOnce, Open}
+use Rattle.fin_descend.specs.declared.lowered.Lowered.{Lowered}
+use Rattle.fin_descend.specs.declared.lowered.Known.{Known}
+use Rattle.fin_descend.specs.declared.lowered.Known.TheVariants.{Nothing, AtOnce, Open}
 use Rattle.fin_descend.specs.declared.stepping.Split.{Split}
 use Rattle.fin_descend.specs.Parts.{weight_in}
 

@@ -11,27 +11,9 @@ ghost use Rattle.fin_style_point.specs.Parts.{all_looplets};
 ghost use Rattle.fin_descend.specs.Parts.{weight_in, parts_of};
 ghost use Rattle.fin_descend.specs.Promises.{MeansIn, Tells};
 
-use fin_ir::Code;
+use crate::lowered::{Known, Lowered};
 use fin_style_point::Nest;
 use std::alloc::{AllocError, Global};
-
-/// Code, and how many locals a layout needs for it.
-#[derive(Debug, Drop)]
-pub struct Lowered {
-    pub code: Code,
-    pub room: u32,
-}
-
-/// What is known of a nest before it is stepped.
-#[derive(Debug, Drop)]
-pub enum Known {
-    /// The body is nothing at each coordinate.
-    Nothing,
-    /// The code of the whole nest, as that of one fixed update.
-    AtOnce(Lowered),
-    /// Neither; the nest may be stepped.
-    Open,
-}
 
 /// The bodies of one loop's nests.
 pub trait Bodies {

@@ -1,15 +1,14 @@
-//! The recursion from nests to code, by weight.
-ghost use Rattle.std.specs.Prelude.{◌≡◌, ◌≤◌, IfOk};
+//! The recursion from nests to code, by weight, for bodies that call back into no descent.
+ghost use Rattle.std.specs.Prelude.{◌≤◌, IfOk};
 ghost use Rattle.std.specs.List.{All};
-ghost use Rattle.fin_nest.specs.Frames.{fill};
-ghost use Rattle.fin_descend.specs.declared.bodies.Known.TheVariants.{Open};
+ghost use Rattle.fin_descend.specs.declared.lowered.Known.TheVariants.{Open};
 ghost use Rattle.fin_descend.specs.Promises.{MeansIn, Tells, MeanEach, Joins};
 
-use crate::bodies::{Bodies, Known, Lowered};
+use crate::bodies::Bodies;
+use crate::lowered::{Known, Lowered, filled, greater, nothing};
 use crate::stepping::{Split, step};
 use crate::weights::weighs_nothing;
 use fin_ir::Code;
-use fin_nest::fill;
 use fin_style_point::Nest;
 use sqlite_items::Items;
 use std::alloc::{AllocError, Global};
@@ -31,16 +30,6 @@ pub fn descend<B: Bodies>(alloc: Global, nest: &Nest, bodies: &B) -> Result<Lowe
         Known::Nothing => Ok(nothing()),
         Known::AtOnce(lowered) => Ok(lowered),
         Known::Open => descend_open(alloc, nest, bodies),
-    }
-}
-
-fn nothing() -> Lowered
-    ensures code { result.code ≡ Code.Skip }
-    ensures room { result.room ≡ 0 }
-{
-    Lowered {
-        code: Code::Skip,
-        room: 0,
     }
 }
 
@@ -77,21 +66,6 @@ fn descend_parts<B: Bodies>(alloc: Global, split: &Split, bodies: &B) -> Result<
     let each = descend_each(alloc, split.nests.as_slice(), bodies)?;
     let room = greater(split.room, each.room);
     filled(alloc, &split.frame, each.codes, room)
-}
-
-fn greater(a: u32, b: u32) -> u32
-    ensures first { a ≤ result }
-    ensures second { b ≤ result }
-{
-    if a < b { b } else { a }
-}
-
-fn filled(alloc: Global, frame: &Code, codes: Items<Code>, room: u32) -> Result<Lowered, AllocError>
-    ensures code { IfOk result (λ lowered. lowered.code ≡ fill frame.now codes) }
-    ensures room { IfOk result (λ lowered. lowered.room ≡ room) }
-{
-    let code = fill(alloc, frame, codes)?;
-    Ok(Lowered { code, room })
 }
 
 #[cycle(descend)]

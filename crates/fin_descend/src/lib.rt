@@ -1,8 +1,13 @@
 //! From nests to code: steps of their styles, down to bodies.
 //!
-//! `descend` is the recursion. Of each nest it first asks its caller (`Bodies`) whether the body is nothing there, or
-//! has code at once; a nest that weighs nothing has the code of its body; and any other is stepped by its style, its
-//! parts are descended, and their codes fill the step's frame. Each part weighs less.
+//! A descent goes by weight. Of each nest it first asks whether the body is nothing there, or has code at once
+//! (`Known`); a nest that weighs nothing (`weighs_nothing`) has the code of its body; and any other is stepped by its
+//! style (`step`), its parts are descended, and their codes fill the step's frame. Each part weighs less.
+//!
+//! Where the bodies of a loop hold loops again, the descent is one cycle with what makes their codes, and no call
+//! through a trait can stand in it. So it is written where they are, out of the functions here, and
+//! `proofs/Cycle.antt` has what each of its functions is proved by. `descend` is such a descent, for bodies whose
+//! codes are made by something else (`Bodies`): it shows that the lemmas are enough.
 //!
 //! The caller chooses what may stand behind the nests (`specs/Promises.antt`): what the loop does in the runs of a
 //! program. The code then means the nest in values and charges, in each layout with the locals that the code needs.
@@ -13,10 +18,14 @@
 mod bodies;
 mod descending;
 mod laws;
+mod lowered;
 mod stepping;
 mod weights;
 
-pub use bodies::{Bodies, Known, Lowered};
+pub use bodies::Bodies;
 pub use descending::descend;
 pub use fin_style_point::Nest;
 pub use laws::{jumpless_dont_jump, parts_are_of_loop};
+pub use lowered::{Known, Lowered, filled, greater, nothing};
+pub use stepping::{Split, step, take_first};
+pub use weights::weighs_nothing;

@@ -16,14 +16,14 @@ use std::alloc::{AllocError, Global};
 
 /// The code around a nest's parts, the parts, and how many locals the code takes.
 #[derive(Debug, Drop)]
-pub(crate) struct Split {
+pub struct Split {
     pub frame: Code,
     pub nests: Items<Nest>,
     pub room: u32,
 }
 
 /// The step of a nest that weighs something.
-pub(crate) fn step(alloc: Global, nest: &Nest) -> Result<Split, AllocError>
+pub fn step(alloc: Global, nest: &Nest) -> Result<Split, AllocError>
     requires { 0 < weight_in nest.now }
     ensures divides { IfOk result (λ p. Divides p nest.now) }
     ensures lighter { IfOk result (λ p. AllLighter p nest.now) }
@@ -177,8 +177,8 @@ fn as_points(alloc: Global, nests: Items<Stepping>) -> Result<Items<Nest>, Alloc
     Ok(all)
 }
 
-// The first item, and the others left.
-fn take_first<T: Drop>(rest: &mut Items<T>) -> Option<T>
+/// The first item, and the others left.
+pub fn take_first<T: Drop>(rest: &mut Items<T>) -> Option<T>
     ensures { MatchOption result ((rest.old ≡ []) × (rest.new ≡ [])) (λ first. rest.old ≡ first ∷ rest.new) }
 {
     if rest.is_empty() {

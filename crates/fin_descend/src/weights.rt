@@ -14,7 +14,7 @@ use fin_nest::Numbered;
 use fin_style_point::Nest;
 
 /// Whether a nest weighs nothing: no step is left to be taken.
-pub(crate) fn weighs_nothing(nest: &Nest) -> bool
+pub fn weighs_nothing(nest: &Nest) -> bool
     ensures weightless { result ≡ nat_eq (weight_in nest.now) 0 }
     ensures exactly { Decides result (RunsAtPoint (all_looplets nest.now) nest.now.lo nest.now.hi) }
 {
