@@ -80,7 +80,8 @@ module _ (ts : Store) (tensor k at q : ℕ) (ls : List ℤ) where
   level_length level.Band (part.Band ptr start) h f on = value_num ts ls (pos 0)
   level_length l p h f on = absurd h.is.level
 
-nowhere_length : (ts : Store) (l : Level) (tensor k at : ℕ) (ls : List ℤ) → is_off (value_of (e.Two op.Ge (e.Local at) (e.Num (pos 0))) ts ls) ≡ true → value_of (length_code l tensor k at) ts ls ≡ pos 0
+nowhere_length : (ts : Store) (l : Level) (tensor k at : ℕ) (ls : List ℤ) → is_off (value_of (e.Two op.Ge (e.Local at) (e.Num (pos 0))) ts ls) ≡ true
+    → value_of (length_code l tensor k at) ts ls ≡ pos 0
 nowhere_length ts level.Dense tensor k at ls off = value_num ts ls (pos 0)
 nowhere_length ts level.List tensor k at ls off = none_length ts tensor k at 0 ls off
 nowhere_length ts level.Dict tensor k at ls off = none_length ts tensor k at 0 ls off
@@ -88,14 +89,16 @@ nowhere_length ts level.Runs tensor k at ls off = none_length ts tensor k at 0 l
 nowhere_length ts level.Band tensor k at ls off = value_num ts ls (pos 0)
 
 module _ (ts : Store) (tensor k at : ℕ) (l : Level) (ls : List ℤ) (by : IExpr) (proto : Proto) where
-  length_by : (stand : Stand) → ((p : Part) (q : ℕ) → stand ≡ At p q → AtLevel ts tensor k l p q) → IsFound ts ls (spot_in at by) stand → value ts ls (length_code l tensor k at) ≡ pos (length_at proto stand)
+  length_by : (stand : Stand) → ((p : Part) (q : ℕ) → stand ≡ At p q → AtLevel ts tensor k l p q) → IsFound ts ls (spot_in at by) stand
+      → value ts ls (length_code l tensor k at) ≡ pos (length_at proto stand)
   length_by Nowhere at_level found = nowhere_length ts l tensor k at ls found
   length_by (At p q) at_level found = level_length ts tensor k at q ls l p (at_level p q refl) (sym (value_local ts ls at) ∙ found.1) found.0
   length_by Unsettled at_level found = absurd found
 
 pub lengths_mean : LengthsMean
 lengths_mean ts tensor levels f vars is k at ls by proto frozen valid lt found =
-    let whole : LevelsAre ts tensor 0 levels f.shape f.parts f.val 1 = record { extents = ap extents_in frozen; parts = ap parts_in frozen; words = ap words_in frozen; count_is = refl; valid = valid } in
+    let whole : LevelsAre ts tensor 0 levels f.shape f.parts f.val 1 =
+    record { extents = ap extents_in frozen; parts = ap parts_in frozen; words = ap words_in frozen; count_is = refl; valid = valid } in
     let same : 0 + k ≡ k = omega arith in
     let l = slice_index_or levels k level.Dense in
     length_by ts tensor k at l ls by proto (stand_at vars f.shape f.parts is k (Some 0))

@@ -59,7 +59,12 @@ module _ (ts : Store) (vars : Numbers) (ks : List ℤ) where
 
   sum_is : (a b : Option ℕ) → Named a → Named b → IsSum a b
   sum_is None None p q = record { number_is = 0; value = value_num ts ks (pos 0); same = refl; below = omega arith }
-  sum_is None (Some y) p q = record { number_is = q.0; value = local_value y q.0 q.2; same = ap (λ z. pos 0 +ℤ z) q.1 ∙ sum_of 0 q.0 ∙ ap pos (let e : 0 + q.0 ≡ q.0 = omega arith in e); below = omega (arith, q.3) }
+  sum_is None (Some y) p q = record {
+    number_is = q.0;
+    value = local_value y q.0 q.2;
+    same = ap (λ z. pos 0 +ℤ z) q.1 ∙ sum_of 0 q.0 ∙ ap pos (let e : 0 + q.0 ≡ q.0 = omega arith in e);
+    below = omega (arith, q.3);
+  }
   sum_is (Some x) None p q = record { number_is = p.0; value = local_value x p.0 p.2; same = ap (λ z. z +ℤ pos 0) p.1 ∙ sym (no_more (pos p.0)); below = omega (arith, p.3) }
   sum_is (Some x) (Some y) p q = record {
     number_is = p.0 + q.0;
@@ -123,7 +128,8 @@ module _ (sc : Scope) (vars : Numbers) (var at : ℕ) (ls : List ℤ) (around : 
       subst (λ (z : ℕ × Index). Same ts ks z.0 (i ∷ is)) same refl
   same_by ts ks i is later d v h false false t e = cc
 
-  places_are : (ts : Store) (ks : List ℤ) → Agree at ks ls → (is : List Index) (d : ℕ × Index) → list_all (is_index sc) is ≡ true → small_offsets is ≡ true → driven_index var is ≡ Some d → Same ts ks d.0 is
+  places_are : (ts : Store) (ks : List ℤ) → Agree at ks ls → (is : List Index) (d : ℕ × Index) → list_all (is_index sc) is ≡ true → small_offsets is ≡ true → driven_index var is ≡ Some d
+      → Same ts ks d.0 is
   places_are ts ks same [] d named small e = cc
   places_are ts ks same (i ∷ is) d named small e =
       let first = left (is_index sc i) (list_all (is_index sc) is) named in
@@ -157,7 +163,8 @@ driven_holds P var (i ∷ is) d all e =
     (nat_le (behind_index i) var) (nat_eq (behind_index i) (var + 1)) e
 
 module _ (sc : Scope) (var : ℕ) where
-  other_low : (a b : Option ℕ) (x : ℕ) → is_loop sc a ≡ true → is_loop sc b ≡ true → differ a b ≡ true → max (behind_var a) (behind_var b) ≡ var + 1 → other_of var a b ≡ Some x → (is_among sc.loops x ≡ true) × (x < var)
+  other_low : (a b : Option ℕ) (x : ℕ) → is_loop sc a ≡ true → is_loop sc b ≡ true → differ a b ≡ true → max (behind_var a) (behind_var b) ≡ var + 1 → other_of var a b ≡ Some x
+      → (is_among sc.loops x ≡ true) × (x < var)
   other_low None b x p q d last e = cc
   other_low (Some a) b x p q d last e = by_test (nat_eq a var) refl e where
     second : (o : Option ℕ) → a ≡ var → is_loop sc o ≡ true → differ (Some a) o ≡ true → max (a + 1) (behind_var o) ≡ var + 1 → o ≡ Some x → (is_among sc.loops x ≡ true) × (x < var)

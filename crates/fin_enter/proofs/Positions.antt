@@ -39,7 +39,8 @@ below_nothing vars (n ∷ ns) (p ∷ ps) [] k = refl
 below_nothing vars (n ∷ ns) (p ∷ ps) (i ∷ is) zero = refl
 below_nothing vars (n ∷ ns) (p ∷ ps) (i ∷ is) (suc k) = refl
 
-none_goes : (ts : ℕ → Tensor) (tensor at j : ℕ) (l : List Level) (ns : List ℕ) (xs : List IExpr) (ls : List ℤ) → at + 1 < length ls → Holds at ls (negsuc 0) → IsRead ts (levels_steps (place_of tensor j at) l ns xs) at ls (negsuc 0)
+none_goes : (ts : ℕ → Tensor) (tensor at j : ℕ) (l : List Level) (ns : List ℕ) (xs : List IExpr) (ls : List ℤ) → at + 1 < length ls → Holds at ls (negsuc 0)
+    → IsRead ts (levels_steps (place_of tensor j at) l ns xs) at ls (negsuc 0)
 none_goes ts tensor at j [] ns xs ls long f = record { long = refl; kept = agree_refl at ls; value = f }
 none_goes ts tensor at j (l ∷ rest) [] xs ls long f = record { long = refl; kept = agree_refl at ls; value = f }
 none_goes ts tensor at j (l ∷ rest) (n ∷ ns) [] ls long f = record { long = refl; kept = agree_refl at ls; value = f }
@@ -120,7 +121,8 @@ is_inside n c z same lt =
     ap (inside n) same ∙ ap (λ (b : Bool). if b then Some c else None) t
 
 module _ (ts : ℕ → Tensor) (tensor : ℕ) (vars : Numbers) (at : ℕ) where
-  goes : (k j count : ℕ) (l : List Level) (ns : List ℕ) (ps : List Part) (val : List ℤ) (o : Option ℕ) (xs : List IExpr) (is : List Index) (ls : List ℤ) → at + 1 < length ls → LevelsAre ts tensor j l ns ps val count
+  goes : (k j count : ℕ) (l : List Level) (ns : List ℕ) (ps : List Part) (val : List ℤ) (o : Option ℕ) (xs : List IExpr) (is : List Index) (ls : List ℤ) → at + 1 < length ls
+      → LevelsAre ts tensor j l ns ps val count
       → IfSome o (λ q. q < count) → AllIn vars k ns is → k < length l → k < length is → ArePlaces ts at ls vars k xs is → Holds at ls (held_as o)
       → Reaches ts (levels_steps (place_of tensor j at) l (take k ns) (take k xs)) at ls (stand_at vars ns ps is k o)
   goes k j count l ns ps val None xs is ls long h lt all a b fixed f =
@@ -170,7 +172,8 @@ module _ (ts : Store) (at : ℕ) (ks : List ℤ) (by : IExpr) where
 
   spot_found : (position : Option ℕ) (stand : Stand) → Fits position stand → Holds at ks (held_as position) → IsFound ts ks (spot_in at by) stand
   spot_found None stand fits f = subst (IsFound ts ks (spot_in at by)) (sym fits) (ap is_off (there_is (negsuc 0) f))
-  spot_found (Some q) stand fits f = subst (IsFound ts ks (spot_in at by)) (sym fits.1) (ap is_off (there_is (pos q) f) ∙ ap (λ (b : Bool). is_off (truth b)) (not_below q), local_is ts ks at (pos q) f)
+  spot_found (Some q) stand fits f =
+      subst (IsFound ts ks (spot_in at by)) (sym fits.1) (ap is_off (there_is (pos q) f) ∙ ap (λ (b : Bool). is_off (truth b)) (not_below q), local_is ts ks at (pos q) f)
 
 placed_by : (ts : Store) (steps : List Step) (at : ℕ) (ls : List ℤ) (stand : Stand) → Reaches ts steps at ls stand → IsPlaced ts steps at ls stand
 placed_by ts steps at ls stand h = record {

@@ -34,7 +34,8 @@ driven_by l a d false e = e
 
 module _ (ts : Store) (l : Around) (parts : ℕ → List Part) (sc : Scope) (vars : Numbers) where
   -- one read
-  one_placed : (a : Access) (d : ℕ × Index) (at : ℕ) (ls : List ℤ) → AreAround sc l.var vars ls → l.var ≤ at → CanStand ts l.heads parts sc a → driven_index l.var a.at ≡ Some d → at + 1 < length ls
+  one_placed : (a : Access) (d : ℕ × Index) (at : ℕ) (ls : List ℤ) → AreAround sc l.var vars ls → l.var ≤ at → CanStand ts l.heads parts sc a → driven_index l.var a.at ≡ Some d
+      → at + 1 < length ls
       → IsPlaced ts (steps_of l.heads a (Some d) at) at ls (stand_at vars (shape_of l.heads a.tensor) (parts a.tensor) a.at d.0 (Some 0))
   one_placed a d at ls around le can driven long =
       let levels = (format_of l.heads a.tensor).levels in
@@ -59,7 +60,8 @@ module _ (ts : Store) (l : Around) (parts : ℕ → List Part) (sc : Scope) (var
       pub found : (ks : List ℤ) → Agree (behind_all l reads (behind_place o at)) ks (stepped ts (steps_by o at) ls)
           → FoundIn ts ks l.heads parts vars a o at × AllFound ts ks l parts vars reads (behind_place o at)
 
-    one_more : (o : Option (ℕ × Index)) (at : ℕ) (ls : List ℤ) → settled_index l a ≡ o → AreAround sc l.var vars ls → l.var ≤ at → CanBePlaced ts l.heads parts sc a o → behind_all l reads (behind_place o at) < length ls
+    one_more : (o : Option (ℕ × Index)) (at : ℕ) (ls : List ℤ) → settled_index l a ≡ o → AreAround sc l.var vars ls → l.var ≤ at → CanBePlaced ts l.heads parts sc a o
+        → behind_all l reads (behind_place o at) < length ls
         → ((next : ℕ) (ks : List ℤ) → AreAround sc l.var vars ks → l.var ≤ next → behind_all l reads next < length ks → ArePlaced ts l parts vars reads next ks) → Both o at ls
     one_more None at ls e around le can room rest =
         let q = rest at ls around le room in
@@ -82,7 +84,8 @@ module _ (ts : Store) (l : Around) (parts : ℕ → List Part) (sc : Scope) (var
               ((λ by. one.found by ks near), q.found ks ends);
         }
 
-  all_placed : (reads : List Access) (at : ℕ) (ls : List ℤ) → AreAround sc l.var vars ls → l.var ≤ at → AllCanStand ts l parts sc reads → behind_all l reads at < length ls → ArePlaced ts l parts vars reads at ls
+  all_placed : (reads : List Access) (at : ℕ) (ls : List ℤ) → AreAround sc l.var vars ls → l.var ≤ at → AllCanStand ts l parts sc reads → behind_all l reads at < length ls
+      → ArePlaced ts l parts vars reads at ls
   all_placed [] at ls around le can room = record { long = refl; kept = agree_refl at ls; found = λ ks same. tt }
   all_placed (a ∷ reads) at ls around le can room =
       let q = one_more a reads (settled_index l a) at ls refl around le can.0 room (λ next ks more low space. all_placed reads next ks more low can.1 space) in
