@@ -2,6 +2,7 @@
 use Rattle.std.proofs.Common.{◌≡◌, ℕ, zero, suc, ◌+◌, ◌<◌, ◌≤◌, ◌^◌, Bool, true, false, List, [], ◌∷◌, length, Option, Some, None, refl, subst, ℤ, arith, if◌then◌else◌}
 use Rattle.std.specs.Prelude.{nat_le, nat_eq, slice_index_or}
 use Rattle.fin_tensor.specs.declared.format.Format.{Format}
+use Rattle.fin_tensor.specs.declared.part.Part.{Part}
 use Rattle.fin_tensor.specs.Levels.{AreSmall}
 use Rattle.fin_ast.specs.declared.tree.Index.{Index}
 use Rattle.fin_ast.specs.Value.{Numbers}
@@ -9,12 +10,12 @@ use Rattle.fin_ir.specs.declared.expression.IExpr.TheVariants as e
 use Rattle.fin_looplet.proofs.Exprs.{names_local}
 use Rattle.fin_unfurl.specs.Fibres.{IsApart}
 use Rattle.fin_simp.specs.Rest.{Access}
-use Rattle.fin_simp.specs.Sights.{behind_index, one_deeper, driven_index}
-use Rattle.fin_simp.specs.Work.{is_in}
+use Rattle.fin_simp.specs.Sights.{behind_index, one_deeper, driven_index, stand_at}
+use Rattle.fin_simp.specs.Work.{is_in, parts_at}
 use Rattle.fin_drive.specs.Looplets.{other}
 use Rattle.fin_drive.specs.Standing.{OtherIs, DistancesMean}
-use Rattle.fin_drive.specs.Entries.{Entry, IsHeld, IsSite, reading_of}
-use Rattle.fin_enter.specs.Sites.{IsCoordinate, IsFooted, site_of, FootedReadsStand}
+use Rattle.fin_drive.specs.Entries.{Entry, IsFound, IsHeld, IsSite, reading_of}
+use Rattle.fin_enter.specs.Sites.{IsCoordinate, IsFooted, site_of, FootedReadsStand, StoredReadsAreFound}
 
 -- ---- the level of a driven index
 
@@ -82,3 +83,8 @@ module _ (distance : DistancesMean) (x : Entry) (a : Access) (d : ℕ × Index) 
 
 pub footed_reads_stand : DistancesMean → FootedReadsStand
 footed_reads_stand distance x a d format at cursor h = footed distance x a d format at cursor h
+
+pub stored_reads_are_found : StoredReadsAreFound
+stored_reads_are_found w r ts format tensor s ls spot vars is k found =
+    subst (λ (ps : List Part). IsFound ts ls spot (stand_at vars s.frozen.shape ps is k (Some 0))) s.parts
+    (subst (λ (ns : List ℕ). IsFound ts ls spot (stand_at vars ns (parts_at w r tensor) is k (Some 0))) s.shape found)

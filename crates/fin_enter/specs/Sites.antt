@@ -3,10 +3,14 @@ use Rattle.std.specs.Prelude.{◌≡◌, ℕ, ◌+◌, ◌<◌, ◌^◌, false, 
 use Rattle.fin_tensor.specs.declared.format.Format.{Format}
 use Rattle.fin_ast.specs.declared.tree.Index.{Index}
 use Rattle.fin_ast.specs.Value.{Numbers, number}
+use Rattle.fin_ast.specs.Dense.{shape_at}
+use Rattle.fin_stage.specs.Staged.{Run}
+use Rattle.fin_looplet.specs.View.{Store}
 use Rattle.fin_simp.specs.Rest.{Access}
 use Rattle.fin_simp.specs.Sights.{driven_index, stand_at}
 use Rattle.fin_simp.specs.Moving.{access_stays}
-use Rattle.fin_simp.specs.Work.{is_in}
+use Rattle.fin_simp.specs.Work.{World, is_in, parts_at}
+use Rattle.fin_drive.specs.declared.reading.Spot.{Spot}
 use Rattle.fin_drive.specs.Looplets.{back, other}
 use Rattle.fin_drive.specs.Entries.{Entry, IsFound, IsSite, Site, reading_of}
 use Rattle.fin_enter.specs.Positions.{spot_in}
@@ -35,3 +39,10 @@ site_of e a d format at cursor = record { format = format; cursor = cursor; spot
 
 abbrev pub FootedReadsStand : Type 0
 FootedReadsStand = (e : Entry) (a : Access) (d : ℕ × Index) (format : Format) (at cursor : ℕ) → IsFooted e a d format at cursor → IsSite e a d (site_of e a d format at cursor)
+
+-- what is found by the shape and the parts that the definition of work has is found by those of the storage
+abbrev pub StoredReadsAreFound : Type 0
+StoredReadsAreFound = (w : World) (r : Run) (ts : Store) (format : Format) (tensor : ℕ) (s : IsStoredAs w r ts format tensor) (ls : List ℤ) (spot : Spot)
+    → (vars : Numbers) (is : List Index) (k : ℕ)
+    → IsFound ts ls spot (stand_at vars (shape_at w.setting tensor) (parts_at w r tensor) is k (Some 0))
+    → IsFound ts ls spot (stand_at vars s.frozen.shape s.frozen.parts is k (Some 0))

@@ -3,7 +3,7 @@ ghost use Rattle.fin_enter.specs.Positions.{PositionsAreFound};
 ghost use Rattle.fin_enter.specs.Charges.{EntriesArePaid, LengthsMean};
 ghost use Rattle.fin_enter.specs.Bounds.{BoundsAreFree, BoundsMean};
 ghost use Rattle.fin_enter.specs.Stores.{TensorsAreStored, TensorsHaveFormats};
-ghost use Rattle.fin_enter.specs.Sites.{FootedReadsStand};
+ghost use Rattle.fin_enter.specs.Sites.{FootedReadsStand, StoredReadsAreFound};
 ghost use Rattle.fin_enter.specs.Indices.{IndicesAreBound};
 ghost use Rattle.fin_enter.specs.Together.{AllPositionsAreFound};
 ghost use Rattle.fin_enter.specs.Entrances.{EntrancesAreMade};
@@ -77,3 +77,8 @@ pub fn entrances_are_made()
 {
     distances_mean();
 }
+
+/// A read that is found by the shape and the parts that the definition of work has is found by those of the storage.
+pub fn stored_reads_are_found()
+    ensures { StoredReadsAreFound }
+{}

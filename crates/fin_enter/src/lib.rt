@@ -14,7 +14,7 @@ mod lengths;
 
 pub use laws::{
     all_positions_are_found, bounds_are_free, bounds_mean, entrances_are_made, entries_are_paid,
-    footed_reads_stand, indices_are_bound, lengths_mean, positions_are_found, tensors_are_stored,
-    tensors_have_formats,
+    footed_reads_stand, indices_are_bound, lengths_mean, positions_are_found,
+    stored_reads_are_found, tensors_are_stored, tensors_have_formats,
 };
 pub use lengths::stored_length;
