@@ -9,9 +9,11 @@
 //! a driven read's looplet asks of them and of these locals, and `specs/Entrances.antt` the nest behind them.
 #![tactic(auto)]
 
+mod entry;
 mod laws;
 mod lengths;
 
+pub use entry::push_charges;
 pub use laws::{
     all_positions_are_found, bounds_are_free, bounds_mean, entrances_are_made, entries_are_paid,
     footed_reads_stand, indices_are_bound, lengths_mean, positions_are_found,
