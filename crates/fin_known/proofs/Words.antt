@@ -1,5 +1,5 @@
 -- Looplets whose fills are words show words in gaps.
-use Rattle.std.proofs.Common.{◌≡◌, ℤ, Bool, true, false, List, [], ◌∷◌, Option, Some, None, if◌then◌else◌}
+use Rattle.std.proofs.Common.{ℤ, Bool, true, false, List, if◌then◌else◌}
 use Rattle.std.specs.Prelude.{IfSome, pos, ◌+ℤ◌, ◌-ℤ◌, int_lt, int_le}
 use Rattle.fin_base.specs.Words.{IsWord}
 use Rattle.fin_ir.specs.Value.{is_off}
@@ -7,7 +7,7 @@ use Rattle.fin_looplet.specs.declared.looplet.Leaf.{Leaf}
 use Rattle.fin_looplet.specs.declared.looplet.Leaf.TheVariants.{Fill, Value, Sub}
 use Rattle.fin_looplet.specs.declared.looplet.Looplet.{Looplet, Row_of-Phase, end_of-Phase, more_of-Phase, Row_of-Walker, end_of-Walker, more_of-Walker, Row_of-Case, end_of-Case, more_of-Case, end_of-Looplet, more_of-Looplet}
 use Rattle.fin_looplet.specs.declared.looplet.Looplet.TheVariants.{Run, Spike, Lookup, Sequence', Stepper', Jumper', Switch', Shift'}
-use Rattle.fin_looplet.specs.View.{Store, value, Sight, absent, position, leaf_sight, View, nowhere, plain, ended, at_step, view, view_phases, view_walker, view_cases}
+use Rattle.fin_looplet.specs.View.{Store, value, Sight, absent, position, leaf_sight, View, plain, ended, at_step, view, view_phases, view_walker, view_cases}
 use Rattle.fin_drive.specs.Turns.{fill_of}
 use Rattle.fin_known.specs.Words.{LeafWorded, Worded, PhasesWorded, WalkerWorded, CasesWorded}
 

@@ -1,5 +1,5 @@
 -- What the heads of a nest's looplets tell is seen at each of its coordinates.
-use Rattle.std.specs.Prelude.{◌≡◌, ℕ, Bool, true, List, map, Some}
+use Rattle.std.specs.Prelude.{◌≡◌, Bool, true, List, map, Some}
 use Rattle.fin_ast.specs.declared.tree.Stmt.{Stmt}
 use Rattle.fin_ast.specs.Literals.{all_hold, is_worded_stmt}
 use Rattle.fin_stage.specs.Staged.{Run}

@@ -1,4 +1,4 @@
-use Rattle.fin_known.proofs.Telling.{heads_tell_nothing as law}
+use Rattle.fin_known.proofs.Heads.{heads_tell_nothing as law}
 use Rattle.fin_known.proofs.laws.heads_tell_nothing.Goals as goal
 
 pub returns : goal.returns

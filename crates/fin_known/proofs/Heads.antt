@@ -6,7 +6,6 @@ use Rattle.std.specs.Ordering.{int_eq}
 use Rattle.std.proofs.lemmas.Bool.Decides.{nat_tests, Decides-int_eq}
 use Rattle.fin_base.specs.Words.{IsWord}
 use Rattle.fin_ast.specs.declared.tree.Stmt.{Stmt}
-use Rattle.fin_stage.specs.Staged as staged
 use Rattle.fin_ir.specs.declared.expression.IExpr.{IExpr}
 use Rattle.fin_ir.specs.declared.expression.IExpr.TheVariants.{Num, Local, Neg', Two', Pick', Times', Cell', Seek', Val'}
 use Rattle.fin_ir.proofs.Values.{value_num}
@@ -17,16 +16,14 @@ use Rattle.fin_looplet.specs.View.{Store, value, view, Seen}
 use Rattle.fin_looplet.specs.Lists.{views, seens}
 use Rattle.fin_nest.specs.declared.entries.Numbered.{Numbered}
 use Rattle.fin_nest.specs.Entries.{looplets, numbers}
-use Rattle.fin_nest.specs.Courses.{Behind, nest_with}
-use Rattle.fin_nest.specs.Nests.{views_of}
 use Rattle.fin_style_point.specs.declared.nest.Nest.{Nest}
-use Rattle.fin_style_point.specs.Parts.{all_looplets, course_of}
+use Rattle.fin_style_point.specs.Parts.{all_looplets}
 use Rattle.fin_simp.specs.declared.facts.Gap.{Gap}
 use Rattle.fin_simp.specs.declared.facts.Known.{Known}
 use Rattle.fin_simp.specs.declared.facts.Facts.{Facts}
 use Rattle.fin_simp.specs.Left.{Marks}
 use Rattle.fin_simp.specs.Facts.{marks, gap_in, truth_of, test_in}
-use Rattle.fin_simp.specs.Numbered.{Here, numbered_all}
+use Rattle.fin_simp.specs.Numbered.{Here}
 use Rattle.fin_simp.specs.Remaining.{are_nothing}
 use Rattle.fin_simp.specs.Rest.{is_none_kind, all_rest, rest_step, Rest}
 use Rattle.fin_simp.specs.Wording.{KnowsWords, StaysIn, Further}
@@ -35,11 +32,10 @@ use Rattle.fin_simp.specs.Work.{World, Worked, rests_in}
 use Rattle.fin_simp.proofs.Loops.{told}
 use Rattle.fin_simp.proofs.Resting.{rests_agree}
 use Rattle.fin_simp.proofs.Staying.{nothing_all_stays}
-use Rattle.fin_drive.specs.Turns.{Slot, Driving, Waiting, Testing, Watched, fill_of, word_of, fill_by, word_by, first_known, marks_seen, rest_seen}
-use Rattle.fin_drive.specs.Bodies.{NothingSeen}
+use Rattle.fin_drive.specs.Turns.{Slot, Driving, Waiting, Testing, Watched, fill_of, word_of, fill_by, word_by, first_known, marks_seen}
 use Rattle.fin_known.specs.Telling.{fill_told, truth_of_number, truth_of_expr, truth_told, fill_at, truth_at, and_gap, gaps_told, and_test, tests_told, marks_told, slot_of, read_slots, slots_of}
-use Rattle.fin_known.specs.Words.{Worded, AllWorded}
-use Rattle.fin_known.specs.Laws.{IsWatched, HeadsTellNothing}
+use Rattle.fin_known.specs.Words.{AllWorded}
+use Rattle.fin_known.specs.Laws.{HeadsTellNothing}
 use Rattle.fin_known.proofs.Words.{view_shows}
 
 -- ---- tests on numbers
