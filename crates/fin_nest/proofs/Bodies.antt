@@ -83,7 +83,7 @@ module _ {S : Type 0} (layout : Layout) (sense : Sense S) (law : Lawful sense) (
   -- ---- the code means the nest
   pub body_means : Charges layout sense work → Means layout sense (body_code n cs) n
   body_means charges = record {
-    does = λ ts s m fits h.
+    does = λ ts s m fits j h.
         let i = lo ts m fits in
         let ss = sights ts m fits in
         let end : Machine = last ts m fits in
@@ -99,7 +99,7 @@ module _ {S : Type 0} (layout : Layout) (sense : Sense S) (law : Lawful sense) (
   -- is kept.
   pub body_counted : (owe : S → S) → Owing layout sense work owe → ((ss : List Seen) (i : ℤ) (s : S) → b.does ss i (owe s) ≡ owe (b.does ss i s)) → MeansCounted layout sense (body_code n cs) n
   body_counted owe owing commutes = record {
-    does = λ ts s m fits h.
+    does = λ ts s m fits j h.
         let i = lo ts m fits in
         let ss = sights ts m fits in
         let end : Machine = last ts m fits in

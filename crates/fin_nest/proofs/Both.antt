@@ -4,11 +4,12 @@ use Rattle.fin_ir.specs.declared.layout.Layout.{Layout}
 use Rattle.fin_stage.specs.Staged.{worked}
 use Rattle.fin_nest.specs.Nests.{Sense}
 use Rattle.fin_nest.specs.Senses.{runs, turns}
-use Rattle.fin_nest.specs.Both.{SensesAreLawful, ChargesAreWork, TurnsAreFree, RegionsFallApart, FoldsAreLoops, CutMachinesStand, CutStatementsStand, Composes, StatementsCompose, StatementsLift, SkippedUpdatesStand, tally_worked, owe_one, BodiesMean}
+use Rattle.fin_nest.specs.Both.{SensesAreLawful, ChargesAreWork, TurnsAreFree, RegionsFallApart, FoldsAreLoops, CutMachinesStand, CutStatementsStand, NothingIsPassedOver, Composes, StatementsCompose, StatementsLift, SkippedUpdatesStand, tally_worked, owe_one, BodiesMean}
 use Rattle.fin_nest.specs.Performs.{body_code}
 use Rattle.fin_nest.proofs.Bodies.{body_means, body_counted}
 use Rattle.fin_nest.proofs.Folds.{over_cut, cut_stands}
 use Rattle.fin_nest.proofs.Means.{counted_means}
+use Rattle.fin_nest.proofs.Jumping.{jumpless}
 use Rattle.fin_nest.proofs.Senses.{runs_lawful, runs_charging, turns_lawful, turns_owing, runs_over, turns_over}
 use Rattle.fin_nest.proofs.Repeated.{loop_is}
 use Rattle.fin_nest.proofs.Lifting.{trailing_performs, turning_performs, skip_behind, skip_before}
@@ -34,6 +35,9 @@ cut_machines_stand s = (cut_stands (runs s) (runs_lawful s), cut_stands (turns s
 
 pub cut_statements_stand : CutStatementsStand
 cut_statements_stand s = record { in_values = runs_over s; in_turns = turns_over s }
+
+pub nothing_is_passed_over : NothingIsPassedOver
+nothing_is_passed_over s = (jumpless (runs s), jumpless (turns s))
 
 composes : {S : Type 0} (layout : Layout) (sense : Sense S) → Composes layout sense
 composes layout sense = record {

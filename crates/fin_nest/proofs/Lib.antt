@@ -3,6 +3,7 @@ pub mod Pinning
 pub mod Changed
 pub mod Folds
 pub mod Means
+pub mod Jumping
 pub mod Senses
 pub mod Lifting
 pub mod Turns

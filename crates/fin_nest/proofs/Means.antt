@@ -93,8 +93,8 @@ leaves_counted m m' n l =
 -- where stops bring nothing in, a code that means the nest means it with a counted turn
 pub counted_means : {S : Type 0} (layout : Layout) (sense : Sense S) → Lawful sense → ((s : S) → sense.pay s ≡ s) → (c : Code) (n : Nest S) → Means layout sense c n → MeansCounted layout sense c n
 counted_means layout sense law free c n mean = record {
-  does = λ ts s m fits r.
-      let d = mean.does ts s m fits r in
+  does = λ ts s m fits j r.
+      let d = mean.does ts s m fits j r in
       let last : Machine = meaning layout c m in
       let all = fold sense.pay ts m.locals n s in
       does_by sense ts s m (count_turn last) n

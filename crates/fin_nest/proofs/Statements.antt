@@ -9,7 +9,7 @@ use Rattle.fin_ir.specs.Value.{value_in, is_off}
 use Rattle.fin_ir.specs.Meaning.{meaning, meaning_all}
 use Rattle.fin_ir.proofs.Codes.{meaning_seq, meaning_when}
 use Rattle.fin_looplet.proofs.Exprs.{value_alike}
-use Rattle.fin_nest.specs.Nests.{Nest, Sense, fold, Kept, Fits, Means}
+use Rattle.fin_nest.specs.Nests.{Nest, Sense, fold, Kept, Jumps, Fits, Means}
 use Rattle.fin_nest.specs.Laws.{Over}
 use Rattle.fin_nest.specs.Performs.{Fact, Place, Hold, Stay, Ready, Left, Performs}
 use Rattle.fin_nest.proofs.Still.{all_still}
@@ -85,13 +85,13 @@ performs_when {S = S} layout sense p test val body g means inner = record {
 
 -- ---- a nest as a statement: its code performs the fold, which is the loop where the sights are right
 pub nest_performs : {S : Type 0} (layout : Layout) (sense : Sense S) (p : Place) (c : Code) (n : Nest S) (f : S → S) → Means layout sense c n
-    → ((m : Machine) → Ready layout m p → Fits layout (seen m) m n)
+    → ((m : Machine) → Ready layout m p → Fits layout (seen m) m n × Jumps sense (seen m) m.locals n)
     → ((s : S) (m : Machine) → Ready layout m p → fold sense.pay (seen m) m.locals n s ≡ f s)
     → ((x : ℕ) → x < p.next → p.binds x ≡ false → Kept n x) → ((t : ℕ) → p.steady t ≡ true → n.steady t ≡ true)
     → Performs layout sense p (c ∷ []) f
 nest_performs layout sense p c n f mean fits is keeps steady = record {
-  does = λ s m r h. subst (λ z. sense.stands z (meaning layout c m)) (is s m r) (mean.does (seen m) s m (fits m r) h).done;
+  does = λ s m r h. subst (λ z. sense.stands z (meaning layout c m)) (is s m r) (mean.does (seen m) s m (fits m r).0 (fits m r).1 h).done;
   leaves = λ s m r h.
-      let d = mean.does (seen m) s m (fits m r) h in
+      let d = mean.does (seen m) s m (fits m r).0 (fits m r).1 h in
       record { long = d.long; kept = λ e x lt free. d.kept e x (keeps x lt free); steady = λ e t q. d.steady e t (steady t q) };
 }

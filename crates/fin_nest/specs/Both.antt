@@ -14,7 +14,8 @@ use Rattle.fin_stage.specs.Trailing.{Monotone, skipped, ChangesNothing}
 use Rattle.fin_looplet.specs.View.{Store, value, Seen}
 use Rattle.fin_looplet.specs.Lists.{seens}
 use Rattle.fin_nest.specs.Related.{Start}
-use Rattle.fin_nest.specs.Nests.{Flags, fresh, flag_at, Nest, Sense, paid_at, views_of, at_flags, part, fold, Kept, Separate, Fits, Means, MeansCounted}
+use Rattle.fin_nest.specs.Jumping.{NoneHolds}
+use Rattle.fin_nest.specs.Nests.{Flags, fresh, flag_at, Nest, Sense, paid_at, views_of, at_flags, part, fold, Kept, Separate, Jumps, Fits, Means, MeansCounted}
 use Rattle.fin_nest.specs.Laws.{Lawful, Onward, Over, Charges, Owing}
 use Rattle.fin_nest.specs.Senses.{exact, runs, Tallied, turns, Advances, AdvancesTally}
 use Rattle.fin_nest.specs.Performs.{Place, Stay, Ready, Performs, body_code, IsBody}
@@ -119,6 +120,15 @@ pub record CutStands (s : Start) : Type 0 where
 abbrev pub CutStatementsStand : Type 0
 CutStatementsStand = (s : Start) → CutStands s
 
+-- ---- jumpers
+
+-- a nest without jumpers has the condition on them
+abbrev pub Jumpless : {S : Type 0} → Sense S → Type 0
+Jumpless sense = (ts : Store) (ls : List ℤ) (n : Nest _) → NoneHolds n.reads → Jumps sense ts ls n
+
+abbrev pub NothingIsPassedOver : Type 0
+NothingIsPassedOver = (s : Start) → Jumpless (runs s) × Jumpless (turns s)
+
 -- ---- statements
 
 pub record Composes {S : Type 0} (layout : Layout) (sense : Sense S) : Type 0 where
@@ -134,7 +144,7 @@ pub record Composes {S : Type 0} (layout : Layout) (sense : Sense S) : Type 0 wh
       → Performs layout sense p (When test (Seq body) ∷ []) (λ s. if is_off (val s) then s else g s)
   -- a nest, whose fold is what the loop does
   pub nest : (p : Place) (c : Code) (n : Nest S) (f : S → S) → Means layout sense c n
-      → ((m : Machine) → Ready layout m p → Fits layout (seen m) m n)
+      → ((m : Machine) → Ready layout m p → Fits layout (seen m) m n × Jumps sense (seen m) m.locals n)
       → ((s : S) (m : Machine) → Ready layout m p → fold sense.pay (seen m) m.locals n s ≡ f s)
       → ((x : ℕ) → x < p.next → p.binds x ≡ false → Kept n x) → ((t : ℕ) → p.steady t ≡ true → n.steady t ≡ true)
       → Performs layout sense p (c ∷ []) f

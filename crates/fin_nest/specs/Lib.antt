@@ -1,4 +1,5 @@
 pub mod Related
+pub mod Jumping
 pub mod Nests
 pub mod Laws
 pub mod Senses

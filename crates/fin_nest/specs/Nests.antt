@@ -10,6 +10,7 @@ use Rattle.fin_looplet.specs.Names.{Names, Loads}
 use Rattle.fin_looplet.specs.View.{Store, value, Seen, View}
 use Rattle.fin_looplet.specs.Sound.{Near}
 use Rattle.fin_looplet.specs.Lists.{views, seens, any_ends, AllSound, AnyFree, AnyLoads, AnyOwns, AllSeparate}
+use Rattle.fin_nest.specs.Jumping.{AnyPasses, AllSimplyJump}
 
 -- ---- folds over a region, with a flag at each coordinate
 
@@ -128,9 +129,31 @@ pub record Bounds (lo hi : ℤ) : Type 0 where
 abbrev pub AllSoundIn : Store → List ℤ → List Looplet → ℤ → ℤ → Type 0
 AllSoundIn ts ls reads lo hi = (i : ℤ) → lo ≤ℤ i → i <ℤ hi → AllSound Near ts ls reads (λ j. j <ℤ hi) i
 
+-- ---- what jumpers pass over
+
+-- the body is nothing at the coordinate: a machine that stands for a state stands for what the body makes of it
+abbrev pub Silent : {S : Type 0} → Sense S → Store → List ℤ → Nest S → ℤ → Type 0
+Silent sense ts ls n i = (begins : Bool) (s : _) (m : Machine) → sense.stands s m
+    → sense.stands (n.body (seens (views_of ts ls n i)) begins i s) m
+
+-- the region goes on behind the coordinate, where some looplet that holds a jumper doesn't stop
+pub record Passes {S : Type 0} (ts : Store) (ls : List ℤ) (n : Nest S) (i : ℤ) : Type 0 where
+  pub from : value ts ls n.lo ≤ℤ i
+  pub inside : (i +ℤ pos 1) <ℤ value ts ls n.hi
+  pub by : AnyPasses n.reads (views_of ts ls n i)
+
+-- The condition on jumpers, in given locals. At a coordinate that one may pass over, the body is nothing; and where no
+-- part ends there, at the next one it does the same whether a part begins or not.
+pub record Jumps {S : Type 0} (sense : Sense S) (ts : Store) (ls : List ℤ) (n : Nest S) : Type 0 where
+  pub simple : AllSimplyJump n.reads
+  pub silent : (i : ℤ) → Passes ts ls n i → Silent sense ts ls n i
+  pub flagless : (i : ℤ) → Passes ts ls n i → any_ends (views_of ts ls n i) ≡ false → (s : S)
+      → n.body (seens (views_of ts ls n (i +ℤ pos 1))) false (i +ℤ pos 1) s
+      ≡ n.body (seens (views_of ts ls n (i +ℤ pos 1))) true (i +ℤ pos 1) s
+
 -- ---- what code means
 
--- a machine in which the senses speak of the nest: `ts` has the tensors that it loads from
+-- a machine in which the nest can be run: `ts` has the tensors that it loads from
 pub record Fits {S : Type 0} (layout : Layout) (ts : Store) (m : Machine) (n : Nest S) : Type 0 where
   pub live : m.cut ≡ false
   pub locals : length m.locals ≡ layout.locals
@@ -149,10 +172,10 @@ pub record Does {S : Type 0} (sense : Sense S) (ts : Store) (s : S) (m m' : Mach
 
 -- the code means the nest in a sense
 pub record Means {S : Type 0} (layout : Layout) (sense : Sense S) (c : Code) (n : Nest S) : Type 0 where
-  pub does : (ts : Store) (s : S) (m : Machine) → Fits layout ts m n → sense.stands s m
+  pub does : (ts : Store) (s : S) (m : Machine) → Fits layout ts m n → Jumps sense ts m.locals n → sense.stands s m
       → Does sense ts s m (meaning layout c m) n
 
 -- the code means the nest, and the turn that is counted behind it is paid
 pub record MeansCounted {S : Type 0} (layout : Layout) (sense : Sense S) (c : Code) (n : Nest S) : Type 0 where
-  pub does : (ts : Store) (s : S) (m : Machine) → Fits layout ts m n → sense.stands s m
+  pub does : (ts : Store) (s : S) (m : Machine) → Fits layout ts m n → Jumps sense ts m.locals n → sense.stands s m
       → Does sense ts s m (count_turn (meaning layout c m)) n

@@ -1,6 +1,6 @@
 //! What is proved of nests, in both senses.
 ghost use Rattle.fin_nest.specs.Both.{SensesAreLawful, ChargesAreWork, TurnsAreFree, RegionsFallApart, FoldsAreLoops};
-ghost use Rattle.fin_nest.specs.Both.{CutMachinesStand, CutStatementsStand, StatementsCompose, StatementsLift, SkippedUpdatesStand, BodiesMean};
+ghost use Rattle.fin_nest.specs.Both.{CutMachinesStand, CutStatementsStand, NothingIsPassedOver, StatementsCompose, StatementsLift, SkippedUpdatesStand, BodiesMean};
 
 /// A machine that stands for a state still does after an assignment; a turn that it counts is paid by a stop; and a
 /// stop may pay for nothing.
@@ -39,6 +39,11 @@ pub fn cut_machines_stand()
 /// that the run was asked for.
 pub fn cut_statements_stand()
     ensures { CutStatementsStand }
+{}
+
+/// A nest whose looplets hold no jumper has the condition on jumpers: none passes over a coordinate.
+pub fn nothing_is_passed_over()
+    ensures { NothingIsPassedOver }
 {}
 
 /// Codes that perform statements perform them one after another, and under a condition; code that means a nest

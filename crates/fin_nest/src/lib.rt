@@ -7,7 +7,8 @@
 //! A nest (`specs/Nests.antt`) is a loop over looplets with a body; its fold goes from coordinate to coordinate by
 //! what the looplets show there. A sense says when a machine stands for a state. Code means a nest in a sense where
 //! it leads from each machine that fits and stands for a state to one that stands for the nest's fold of that
-//! state. There are two senses (`specs/Senses.antt`): in values and charges, where the machine does what a run does
+//! state, if the body is nothing wherever a jumper may pass over a coordinate: behind which a looplet that holds one
+//! doesn't stop, while the region goes on (`specs/Jumping.antt`). There are two senses (`specs/Senses.antt`): in values and charges, where the machine does what a run does
 //! that may have left out updates that change nothing; and in turns, where besides it has counted at most as many
 //! turns as charges and stops allow.
 //!
@@ -31,7 +32,7 @@ pub use entries::Numbered;
 pub use frames::fill;
 pub use laws::{
     bodies_mean, charges_are_work, cut_machines_stand, cut_statements_stand, folds_are_loops,
-    regions_fall_apart, senses_are_lawful, skipped_updates_stand, statements_compose,
-    statements_lift, turns_are_free,
+    nothing_is_passed_over, regions_fall_apart, senses_are_lawful, skipped_updates_stand,
+    statements_compose, statements_lift, turns_are_free,
 };
 pub use terms::{copy_ends, two, when};
