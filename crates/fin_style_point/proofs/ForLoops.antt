@@ -26,7 +26,9 @@ use Rattle.fin_nest.specs.Laws.{Lawful, Onward, bare, Flagless, AtPoints}
 use Rattle.fin_nest.proofs.Still.{stills, for_turn_still}
 use Rattle.fin_nest.proofs.Folds.{over_parts}
 use Rattle.fin_nest.proofs.Means.{with_local, assigns, computes}
+use Rattle.fin_nest.proofs.Jumping.{jumpless}
 use Rattle.fin_style_point.specs.Steps.{AllFlat, held, coordinates, hold, point_nest, for_code}
+use Rattle.fin_style_point.proofs.Origins.{all_held_none}
 use Rattle.fin_style_point.proofs.Flat.{held_sights, none_counted, held_sound, held_owns, Among, owned_among, among_owned}
 
 all_append : (layout : Layout) (xs ys : List Code) (m : Machine) → meaning_all layout (xs ++ ys) m ≡ meaning_all layout ys (meaning_all layout xs m)
@@ -197,7 +199,7 @@ module _ {S : Type 0} (layout : Layout) (sense : Sense S) (law : Lawful sense) (
       stands_set = made.same (after k) (subst (sense.stands (after k)) (assigns n.next v m live) (law.assign n.next v (after k) m i.done))
 
       did : Does sense ts (after k) set (count_turn (meaning layout a set)) (point_nest n)
-      did = mean.does ts (after k) set fits_point stands_set
+      did = mean.does ts (after k) set fits_point (jumpless sense ts set.locals (point_nest n) (all_held_none n.reads flat)) stands_set
 
       part_is : fold sense.pay ts set.locals (point_nest n) (after k) ≡ after (suc k)
       part_is =
@@ -257,4 +259,4 @@ module _ {S : Type 0} (layout : Layout) (sense : Sense S) (law : Lawful sense) (
 -- where a code means the nest of one coordinate, with the turn behind it, the loop over the coordinates means the nest
 pub for_means : {S : Type 0} (layout : Layout) (sense : Sense S) → Lawful sense → (n : Nest S) → Separate n → Onward sense n.body → n.next < layout.locals → AllFlat n.reads → Flagless n → AtPoints n.body
     → (a : Code) → MeansCounted layout sense a (point_nest n) → Means layout sense (for_code n a) n
-for_means layout sense law n apart on room flat flagless points a mean = record { does = λ ts s m fits r. for_does layout sense law n apart on room flat flagless points a mean ts s m fits r }
+for_means layout sense law n apart on room flat flagless points a mean = record { does = λ ts s m fits jumps r. for_does layout sense law n apart on room flat flagless points a mean ts s m fits r }

@@ -21,7 +21,7 @@ module _ {S : Type 0} (sense : Sense S) (law : Lawful sense) (n : Nest S) (nothi
 
 pub nothing_means : {S : Type 0} (layout : Layout) (sense : Sense S) → Lawful sense → NothingMeans layout sense
 nothing_means layout sense law n nothing = record {
-  does = λ ts s m fits r. subst (λ (x : Machine). Does sense ts s m x n) (sym (meaning_skip layout m)) (record {
+  does = λ ts s m fits jumps r. subst (λ (x : Machine). Does sense ts s m x n) (sym (meaning_skip layout m)) (record {
     done = part_stands sense law n nothing ts m.locals (span (value ts m.locals n.lo) (value ts m.locals n.hi)) fresh (value ts m.locals n.lo) s m r;
     long = refl;
     kept = λ c x k. refl;

@@ -1,5 +1,5 @@
 -- The step of shifts: each is pushed inside, and all at once.
-use Rattle.std.proofs.Common.{◌≡◌, ℕ, ◌<◌, ◌≤◌, inl, inr, ⊎_elim, List, [], ◌∷◌, length, true, refl, ℤ, pos, ◌+ℤ◌, ◌-ℤ◌, neg_ℤ, ◌<ℤ◌, arith}
+use Rattle.std.proofs.Common.{◌≡◌, ℕ, ◌<◌, ◌≤◌, inl, inr, ⊎_elim, List, [], ◌∷◌, length, true, refl, ℤ, pos, ◌+ℤ◌, ◌-ℤ◌, neg_ℤ, ◌≤ℤ◌, ◌<ℤ◌, arith}
 use Rattle.std.specs.Prelude.{map}
 use borrow.Author.Differences.{sum_is_lem, neg_is, lt_out, below_in}
 use Rattle.fin_ir.specs.declared.code.Code.{Code}
@@ -17,11 +17,13 @@ use Rattle.fin_looplet.proofs.Cuts.{like_same}
 use Rattle.fin_looplet.proofs.Moves.{moved_view, moved_sound}
 use Rattle.fin_looplet.proofs.MovedLocals.{moved_free, moved_loads, moved_owns, moved_shift_names, moved_nested}
 use Rattle.fin_looplet.proofs.Weights.{moved_light}
-use Rattle.fin_nest.specs.Nests.{Nest, Sense, Separate, Fits, Means}
+use Rattle.fin_nest.specs.Nests.{Nest, Sense, views_of, Separate, Fits, Means}
 use Rattle.fin_nest.proofs.Means.{near_in, reshaped}
+use Rattle.fin_nest.proofs.Jumping.{mapped_from, jumps_reshaped}
 use Rattle.fin_style_point.specs.Steps.{Has, is_shift, unshifted, shift_nest}
 use Rattle.fin_style_point.specs.Laws.{ShiftSplits}
 use Rattle.fin_style_point.proofs.Within.{Within, separate_within, fits_within}
+use Rattle.fin_style_point.proofs.Origins.{unshifted_from}
 
 -- what is before an end is, less the distance, before the end less the distance; and the other way round
 lowered : (B hi j : ℤ) → j <ℤ hi → ((j -ℤ B) +ℤ B) <ℤ hi
@@ -178,15 +180,17 @@ all_lighter (l ∷ rest) (inr h) = omega (arith, one_light l, all_lighter rest h
 -- where a code means the nest with its shifts pushed inside, it means the nest
 shift_means : {S : Type 0} (layout : Layout) (sense : Sense S) (n : Nest S) → Separate n → n.next ≤ layout.locals → (c : Code) → Means layout sense c (shift_nest n) → Means layout sense c n
 shift_means layout sense n apart room c mean = record {
-  does = λ ts s m fits r.
+  does = λ ts s m fits jumps r.
       let Hi = value ts m.locals n.hi in
       let Lo = value ts m.locals n.lo in
       let own : (x : ℕ) → AnyOwns x n.reads → (x < length m.locals) × (AnyShiftNames x n.reads → ⊥) = (λ x o. let w = apart.own_below x o in let l = fits.locals in (omega (arith, w, l, room), apart.own.unshifted x o)) in
       let f : Fits layout ts m (shift_nest n) = fits_within layout ts m n (map unshifted n.reads) fits
       (λ i low lt. all_sound ts m.locals Hi i n.reads (near_in Lo Hi i fits.bounds low lt) (fits.sound i low lt) own) in
-      reshaped sense n (map unshifted n.reads) (λ x o. all_owns x n.reads o) ts s m (meaning layout c m)
-      (λ i low lt. all_views ts m.locals Hi i ((i +ℤ pos 1) <ℤ Hi) n.reads Hi (near_in Lo Hi i fits.bounds low lt) (fits.sound i low lt) own)
-      (mean.does ts s m f r);
+      let like : (i : ℤ) → value ts m.locals n.lo ≤ℤ i → i <ℤ value ts m.locals n.hi
+      → AllLike ((i +ℤ pos 1) <ℤ value ts m.locals n.hi) (views ts m.locals (map unshifted n.reads) (value ts m.locals n.hi) i) (views_of ts m.locals n i) =
+      (λ i low lt. all_views ts m.locals Hi i ((i +ℤ pos 1) <ℤ Hi) n.reads Hi (near_in Lo Hi i fits.bounds low lt) (fits.sound i low lt) own) in
+      reshaped sense n (map unshifted n.reads) (λ x o. all_owns x n.reads o) ts s m (meaning layout c m) like
+      (mean.does ts s m f (jumps_reshaped sense ts m.locals n (map unshifted n.reads) (mapped_from unshifted unshifted_from n.reads) like jumps) r);
 }
 
 shift_within : {S : Type 0} (n : Nest S) → Separate n → Within n (map unshifted n.reads)

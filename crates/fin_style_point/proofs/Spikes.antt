@@ -1,5 +1,5 @@
 -- The step of spikes: each is cut at its region's end.
-use Rattle.std.proofs.Common.{◌≡◌, ◌<◌, inl, inr, ⊎_elim, List, [], ◌∷◌, true, ℤ, pos, ◌+ℤ◌, ◌<ℤ◌, arith}
+use Rattle.std.proofs.Common.{◌≡◌, ◌<◌, inl, inr, ⊎_elim, List, [], ◌∷◌, true, ℤ, pos, ◌+ℤ◌, ◌≤ℤ◌, ◌<ℤ◌, arith}
 use Rattle.std.specs.Prelude.{map}
 use Rattle.fin_ir.specs.declared.expression.IExpr.{IExpr}
 use Rattle.fin_ir.specs.declared.code.Code.{Code}
@@ -10,12 +10,15 @@ use Rattle.fin_looplet.specs.declared.looplet.Looplet.TheVariants.{Run, Spike, L
 use Rattle.fin_looplet.specs.View.{value}
 use Rattle.fin_looplet.specs.Sound.{Near}
 use Rattle.fin_looplet.specs.Cut.{before, cap, cut}
+use Rattle.fin_looplet.specs.Like.{AllLike}
+use Rattle.fin_looplet.specs.Lists.{views}
 use Rattle.fin_looplet.specs.Weight.{weight, weights}
 use Rattle.fin_looplet.proofs.Bridges.{weight_phase, weight_no_phase}
 use Rattle.fin_looplet.proofs.Weights.{cut_light, cut_all_light}
 use Rattle.fin_looplet.proofs.Lists.{cut_views, cut_all_sound, cut_all_free, cut_all_loads, cut_all_owns, cut_all_shift_names, cut_all_separate}
-use Rattle.fin_nest.specs.Nests.{Nest, Sense, Separate, Fits, Means}
+use Rattle.fin_nest.specs.Nests.{Nest, Sense, views_of, Separate, Fits, Means}
 use Rattle.fin_nest.proofs.Means.{near_in, reshaped}
+use Rattle.fin_nest.proofs.Jumping.{cut_from, mapped_from, jumps_reshaped}
 use Rattle.fin_style_point.specs.Steps.{Has, is_spike, spike_nest}
 use Rattle.fin_style_point.specs.Laws.{weight_in, SpikeSplits}
 use Rattle.fin_style_point.proofs.Within.{Within, separate_within, fits_within}
@@ -23,15 +26,17 @@ use Rattle.fin_style_point.proofs.Within.{Within, separate_within, fits_within}
 -- where a code means the nest with its spikes cut, it means the nest
 spike_means : {S : Type 0} (layout : Layout) (sense : Sense S) (n : Nest S) (c : Code) → Means layout sense c (spike_nest n) → Means layout sense c n
 spike_means layout sense n c mean = record {
-  does = λ ts s m fits r.
+  does = λ ts s m fits jumps r.
       let Hi = value ts m.locals n.hi in
       let Lo = value ts m.locals n.lo in
       let near = (λ (z : ℤ) (h : Near z). h) in
       let f : Fits layout ts m (spike_nest n) = fits_within layout ts m n (map (cut n.hi) n.reads) fits
       (λ i low lt. cut_all_sound Near near ts m.locals n.reads n.hi i (λ j. j <ℤ Hi) (near_in Lo Hi i fits.bounds low lt) lt (fits.sound i low lt)) in
-      reshaped sense n (map (cut n.hi) n.reads) (λ x o. cut_all_owns x n.reads n.hi o) ts s m (meaning layout c m)
-      (λ i low lt. cut_views Near near ts m.locals n.reads n.hi Hi i (λ j. j <ℤ Hi) ((i +ℤ pos 1) <ℤ Hi) (λ q. q) (near_in Lo Hi i fits.bounds low lt) lt (fits.sound i low lt))
-      (mean.does ts s m f r);
+      let like : (i : ℤ) → value ts m.locals n.lo ≤ℤ i → i <ℤ value ts m.locals n.hi
+      → AllLike ((i +ℤ pos 1) <ℤ value ts m.locals n.hi) (views ts m.locals (map (cut n.hi) n.reads) (value ts m.locals n.hi) i) (views_of ts m.locals n i) =
+      (λ i low lt. cut_views Near near ts m.locals n.reads n.hi Hi i (λ j. j <ℤ Hi) ((i +ℤ pos 1) <ℤ Hi) (λ q. q) (near_in Lo Hi i fits.bounds low lt) lt (fits.sound i low lt)) in
+      reshaped sense n (map (cut n.hi) n.reads) (λ x o. cut_all_owns x n.reads n.hi o) ts s m (meaning layout c m) like
+      (mean.does ts s m f (jumps_reshaped sense ts m.locals n (map (cut n.hi) n.reads) (mapped_from (cut n.hi) (cut_from n.hi) n.reads) like jumps) r);
 }
 
 -- ---- weights

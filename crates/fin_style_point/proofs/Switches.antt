@@ -2,6 +2,7 @@
 use Rattle.std.proofs.Common.{◌≡◌, ℕ, ◌+◌, ◌<◌, List, [], ◌∷◌, length, Bool, true, false, refl, sym, ap, ◌∙◌, subst, ℤ, pos, ◌+ℤ◌, ◌≤ℤ◌, ◌<ℤ◌, arith, get_or-set_same, get_or-set_other, Some}
 use Rattle.std.specs.Prelude.{if◌then◌else◌}
 use Rattle.std.proofs.Math.ListN.{length-set}
+use borrow.Author.Differences.{at_most_in}
 use Rattle.fin_base.specs.Words.{operate, truth}
 use Rattle.fin_base.specs.declared.terms.Op.TheVariants as op
 use Rattle.fin_ir.specs.declared.expression.IExpr.{IExpr}
@@ -22,15 +23,17 @@ use Rattle.fin_looplet.specs.Lists.{views, AllSound, AnyFree}
 use Rattle.fin_looplet.proofs.Cuts.{like_same}
 use Rattle.fin_looplet.proofs.Exprs.{get, value_same}
 use Rattle.fin_looplet.proofs.Lists.{views_same, all_same}
-use Rattle.fin_nest.specs.Nests.{Nest, Sense, Kept, Separate, Bounds, Fits, Does, Means}
+use Rattle.fin_nest.specs.Nests.{Nest, Sense, Kept, Separate, Bounds, Jumps, Fits, Does, Means}
 use Rattle.fin_nest.specs.Laws.{Lawful}
 use Rattle.fin_nest.proofs.Still.{stills}
 use Rattle.fin_nest.proofs.Folds.{Shows, shown}
+use Rattle.fin_nest.proofs.Jumping.{AllFrom, jumps_on}
 use Rattle.fin_nest.proofs.Means.{with_local, assigns, computes, unbound}
 use Rattle.fin_style_point.specs.Steps.{Choice, first_switch, switch_nest, switch_code}
 use Rattle.fin_style_point.specs.Laws.{SwitchSplits}
 use Rattle.fin_style_point.proofs.Within.{Within, separate_within}
 use Rattle.fin_style_point.proofs.Branches.{Branches, Chooses, chooses, branch_within}
+use Rattle.fin_style_point.proofs.Origins.{switch_parts_from}
 
 self_like : (inside : Type 0) (vs : List View) → AllLike inside vs vs
 self_like inside [] = tt
@@ -46,7 +49,7 @@ record Taken {S : Type 0} (sense : Sense S) (ts : Store) (s : S) (m m' : Machine
   flag : m'.cut ≡ false → get m'.locals n.next ≡ v
 
 module _ {S : Type 0} (layout : Layout) (sense : Sense S) (law : Lawful sense) (n : Nest S) (apart : Separate n) (room : n.next < layout.locals) (rs : List Looplet) (w : Within n rs) (a : Code)
-    (mean : Means layout sense a (switch_nest n rs)) (ts : Store) (s : S) (m : Machine) (v : ℤ) (fits : Fits layout ts m n) (stands : sense.stands s m)
+    (mean : Means layout sense a (switch_nest n rs)) (ts : Store) (s : S) (m : Machine) (v : ℤ) (fits : Fits layout ts m n) (jumps : Jumps sense ts m.locals n) (stands : sense.stands s m) (from : AllFrom n.reads rs)
     (same : (i : ℤ) → value ts m.locals n.lo ≤ℤ i → i <ℤ value ts m.locals n.hi → AllSound Near ts m.locals rs (λ j. j <ℤ value ts m.locals n.hi) i × (views ts m.locals rs (value ts m.locals n.hi) i ≡ views ts m.locals n.reads (value ts m.locals n.hi) i)) where
   abbrev m1 : Machine
   m1 = with_local n.next v m
@@ -99,8 +102,11 @@ module _ {S : Type 0} (layout : Layout) (sense : Sense S) (law : Lawful sense) (
         (ap (λ z. views ts m1.locals rs z i) hi1 ∙ views_same ts rs m1.locals m.locals Hi i long1 free1 ∙ (same i low lt).1);
   }
 
+  jumps1 : Jumps sense ts m1.locals (switch_nest n rs)
+  jumps1 = jumps_on sense ts m.locals m1.locals n (switch_nest n rs) Lo Hi refl shows from (at_most_in Lo Lo (omega arith)) (at_most_in Hi Hi (omega arith)) jumps
+
   did : Does sense ts s m1 (meaning layout a m1) (switch_nest n rs)
-  did = mean.does ts s m1 fits1 stands1
+  did = mean.does ts s m1 fits1 jumps1 stands1
 
   kept_at : Kept (switch_nest n rs) n.next
   kept_at = record {
@@ -130,8 +136,8 @@ when_off layout test c x t = meaning_when layout test c x ∙ ap (λ (b : Bool).
 
 -- ---- the step
 
-module _ {S : Type 0} (layout : Layout) (sense : Sense S) (law : Lawful sense) (n : Nest S) (apart : Separate n) (room : n.next < layout.locals) (c : Choice) (choice : Chooses n.reads c)
-    (a b : Code) (mean_a : Means layout sense a (switch_nest n c.taken)) (mean_b : Means layout sense b (switch_nest n c.others)) (ts : Store) (s : S) (m : Machine) (fits : Fits layout ts m n) (stands : sense.stands s m) where
+module _ {S : Type 0} (layout : Layout) (sense : Sense S) (law : Lawful sense) (n : Nest S) (apart : Separate n) (room : n.next < layout.locals) (c : Choice) (choice : Chooses n.reads c) (from : AllFrom n.reads c.taken × AllFrom n.reads c.others)
+    (a b : Code) (mean_a : Means layout sense a (switch_nest n c.taken)) (mean_b : Means layout sense b (switch_nest n c.others)) (ts : Store) (s : S) (m : Machine) (fits : Fits layout ts m n) (jumps : Jumps sense ts m.locals n) (stands : sense.stands s m) where
   abbrev Test : ℤ
   Test = value ts m.locals c.test
 
@@ -160,11 +166,11 @@ module _ {S : Type 0} (layout : Layout) (sense : Sense S) (law : Lawful sense) (
       ∙ ap (operate op.Eq (value_in x (Local n.next))) (value_num (seen x) x.locals (pos 0)) ∙ ap (λ z. truth (is_off z)) (here_is x e)
 
   by_yes : is_off Test ≡ false → Taken sense ts s m (meaning layout a mf) n Test
-  by_yes t = taken layout sense law n apart room c.taken (branch_within n c.taken c.test false choice.0 apart) a mean_a ts s m Test fits stands
+  by_yes t = taken layout sense law n apart room c.taken (branch_within n c.taken c.test false choice.0 apart) a mean_a ts s m Test fits jumps stands from.0
       (λ i low lt. let Hi = value ts m.locals n.hi in let q = fits.sound i low lt in (choice.0.sound ts m.locals Hi i t q, choice.0.shows ts m.locals Hi Hi i t q))
 
   by_no : is_off Test ≡ true → Taken sense ts s m (meaning layout b mf) n Test
-  by_no t = taken layout sense law n apart room c.others (branch_within n c.others c.test true choice.1 apart) b mean_b ts s m Test fits stands
+  by_no t = taken layout sense law n apart room c.others (branch_within n c.others c.test true choice.1 apart) b mean_b ts s m Test fits jumps stands from.1
       (λ i low lt. let Hi = value ts m.locals n.hi in let q = fits.sound i low lt in (choice.1.sound ts m.locals Hi i t q, choice.1.shows ts m.locals Hi Hi i t q))
 
   -- behind the first case's code: it was cut, or the local stands as it stood
@@ -199,7 +205,7 @@ pub switch_splits : {S : Type 0} (layout : Layout) (sense : Sense S) → Lawful 
 switch_splits layout sense law n c e =
     let k = chooses n.reads c e in
     record {
-      means = λ apart room a b ma mb. record { does = λ ts s m fits r. switch_does layout sense law n apart room c k a b ma mb ts s m fits r };
+      means = λ apart room a b ma mb. record { does = λ ts s m fits j r. switch_does layout sense law n apart room c k (switch_parts_from n.reads c e) a b ma mb ts s m fits j r };
       lighter = (omega (arith, k.0.lighter), omega (arith, k.1.lighter));
       separate = λ s. (branch_separate n c.taken c.test false k.0 s, branch_separate n c.others c.test true k.1 s);
     }

@@ -70,7 +70,7 @@ module _ {S : Type 0} (layout : Layout) (sense : Sense S) (n : Nest S) (c : Code
 
   -- code that means the nest where it has a coordinate
   pub within_means : Means layout sense (times_code n c) n
-  within_means = record { does = λ ts s m fits stands. within_does ts s m fits stands (span (value ts m.locals n.lo) (value ts m.locals n.hi)) refl }
+  within_means = record { does = λ ts s m fits jumps stands. within_does ts s m fits stands (span (value ts m.locals n.lo) (value ts m.locals n.hi)) refl }
 
 -- where a code leads over the region at once, asked only where there is a coordinate, it means the nest
 pub times_means : {S : Type 0} (layout : Layout) (sense : Sense S) → FixedMeans layout sense

@@ -197,7 +197,7 @@ module _ (s : Start) (layout : Layout) (p : plain.Nest) (b : Behind Run) (shape 
 
   pub counts_turns : weight_of (all_looplets p) p.lo p.hi ≡ 0 → MeansCounted layout (turns s) (at_once_code p shape c) counted
   counts_turns none = record {
-    does = λ ts q m fits stands.
+    does = λ ts q m fits jumps stands.
         let one = one_coordinate ts m.locals p.lo p.hi fits.bounds (weights (all_looplets p)) none in
         subst (λ (x : Machine). Does (turns s) ts q m (count_turn x) counted) (sym (within_some layout counted once apart_counted ts m fits 0 one)) (does_once ts q m fits stands 0 one);
   }

@@ -6,7 +6,8 @@
 //! code that does a fixed thing at once; and of a nest whose body does nothing no part is left.
 //!
 //! The laws say of each step, in both senses of nests, when code that means the parts, with the code between them,
-//! means the nest: a loop's part with a turn counted behind it. Where a nest has a looplet of the step's style, or of
+//! means the nest: a loop's part with a turn counted behind it. Where the condition on jumpers holds of the nest, it
+//! holds of each part when the code between them comes to it. Where a nest has a looplet of the step's style, or of
 //! runs and lookups weighs something, each part weighs less; and no part depends on what its code changes. What a
 //! part's body does is left to its code.
 //!
