@@ -24,14 +24,15 @@ use Rattle.fin_looplet.specs.Sound.{Near}
 use Rattle.fin_looplet.specs.Cut.{plus, before}
 use Rattle.fin_looplet.specs.Lists.{seens, any_ends, AllSound, AnyOwns}
 use Rattle.fin_looplet.proofs.Exprs.{get, names_local, loads_local, loads_num}
-use Rattle.fin_nest.specs.Nests.{Flags, fresh, flag_at, any_counted, paid_if, Nest, Sense, views_of, at_act, at_flags, part, fold, Kept, Separate, Does, Means}
+use Rattle.fin_nest.specs.Nests.{Flags, fresh, flag_at, any_counted, paid_if, Nest, Sense, views_of, at_act, at_flags, part, fold, Kept, Separate, Silent, Passes, Does, Means}
 use Rattle.fin_nest.specs.Laws.{Lawful, Onward}
 use Rattle.fin_nest.proofs.Statements.{all_append}
 use Rattle.fin_nest.proofs.Folds.{over_parts, shown}
 use Rattle.fin_nest.proofs.Means.{with_local, assigns}
 use Rattle.fin_style_step.specs.Steps.{jumper, walkers, Among, stop_at, place, insides, greatest, jump, jumper_nest, jumper_code}
-use Rattle.fin_style_step.specs.Laws.{Idle, CountsOne, Commutes, Silent, Passes, Jumps, CanJump}
+use Rattle.fin_style_step.specs.Laws.{Idle, CountsOne, Commutes}
 use Rattle.fin_style_step.proofs.Walks.{jumpers_walk, any_walks, one_counted}
+use Rattle.fin_style_step.proofs.Origins.{jumper_child, insides_from, jumper_passes}
 use Rattle.fin_style_step.proofs.Joints.{at_most, greatest_over, greatest_is, greatest_loads}
 use Rattle.fin_style_step.proofs.Placing.{Placed, Placing}
 use Rattle.fin_style_step.proofs.InsideLocals.{insides_owns}
@@ -39,14 +40,14 @@ use Rattle.fin_style_step.proofs.Narrowing.{part_kept, new_kept}
 use Rattle.fin_style_step.proofs.Passing.{spared, skip_stands, Credit, credit}
 use Rattle.fin_style_step.proofs.Loops.{Loop, Lo, Hi, after, flags, ready, Inv, stop_of, turn_of, cursor_below, kept_no_cursor, placing, placed_back, loop_does}
 use Rattle.fin_style_step.proofs.Turns.{Turn, Joint, next, now, begun, first_placed, first_kept, begun_long, sees_kept, at_until, steady_m, sound_v, next_above, next_end, next_joint, next_reached, stands_begun, turn_after, idle_pays, ready_is, flags_are, Ran, turn_ends}
-use Rattle.fin_style_step.proofs.Pieces.{Piece, stop_is, stop_over, piece_shows, piece_fits}
+use Rattle.fin_style_step.proofs.Pieces.{Piece, stop_is, stop_over, piece_shows, piece_fits, piece_jumps}
 
 some_walker : (ws : List Walker) → 0 < length ws → (w : Walker) × Among w ws
 some_walker [] h = absurd (omega (arith, h))
 some_walker (w ∷ ws) h = (w, inl refl)
 
 module _ {S : Type 0} (layout : Layout) (sense : Sense S) (n : Nest S) (room : n.next + 2 < layout.locals) (some : 0 < length (walkers jumper n.reads)) (pays : Idle sense ⊎ (CountsOne jumper n.counts n.reads × Commutes sense n.body))
-    (a : Code) (mean : Means layout sense a (jumper_nest n)) (ts : Store) (s : S) (m0 : Machine) (g : Loop layout sense n jumper ts s m0) (jumps : Jumps sense ts m0.locals n) where
+    (a : Code) (mean : Means layout sense a (jumper_nest n)) (ts : Store) (s : S) (m0 : Machine) (g : Loop layout sense n jumper ts s m0) where
   abbrev ws : List Walker
   ws = walkers jumper n.reads
 
@@ -127,16 +128,15 @@ module _ {S : Type 0} (layout : Layout) (sense : Sense S) (n : Nest S) (room : n
         record {
           from = at_most_in (Lo g) i (omega (arith, le_out v i low, al));
           inside = in_hi;
-          by = reach.by;
-          among = reach.among;
-          over = below_in (i +ℤ pos 1) (stop_at ts m0.locals reach.by i) (omega (arith, l1, nj, u, d, eu, ed));
+          by = jumper_passes ts m0.locals (value ts m0.locals n.hi) i n.reads reach.by reach.among g.jumps.simple
+              (below_in (i +ℤ pos 1) (stop_at ts m0.locals reach.by i) (omega (arith, l1, nj, u, d, eu, ed)));
         }
 
     silent : (j : ℕ) → j < span v N - 1 → Silent sense ts m0.locals n (v +ℤ pos j)
     silent j lt =
         let i = v +ℤ pos j in
         let sj = sum_is_lem v (pos j) in
-        jumps.silent i (goes_on i (at_most_in v i (omega (arith, sj))) (below_in (i +ℤ pos 1) N (omega (arith, lt, span_is v N, na, sum_is_lem i (pos 1), sj))))
+        g.jumps.silent i (goes_on i (at_most_in v i (omega (arith, sj))) (below_in (i +ℤ pos 1) N (omega (arith, lt, span_is v N, na, sum_is_lem i (pos 1), sj))))
 
     -- ---- the last coordinate of the turn
 
@@ -287,7 +287,7 @@ module _ {S : Type 0} (layout : Layout) (sense : Sense S) (n : Nest S) (room : n
         let after_it : i0 +ℤ pos 1 ≡ last = same_in _ _ (omega (arith, eu, ed, sum_is_lem i0 (pos 1), sum_is_lem v (pos q), sum_is_lem v (pos (suc q)))) in
         elim (any_ends (views_of ts m0.locals n i0)) as (λ b. any_ends (views_of ts m0.locals n i0) ≡ b → n.body sights b last r ≡ n.body sights true last r) [
           | true ↦ (λ h. refl)
-          | false ↦ (λ h. subst (λ z. n.body (seens (views_of ts m0.locals n z)) false z r ≡ n.body (seens (views_of ts m0.locals n z)) true z r) after_it (jumps.flagless i0 (goes_on i0 low lt) h r))
+          | false ↦ (λ h. subst (λ z. n.body (seens (views_of ts m0.locals n z)) false z r ≡ n.body (seens (views_of ts m0.locals n z)) true z r) after_it (g.jumps.flagless i0 (goes_on i0 low lt) h r))
         ] refl
 
     -- so the turn does what its last coordinate does
@@ -303,7 +303,7 @@ module _ {S : Type 0} (layout : Layout) (sense : Sense S) (n : Nest S) (room : n
         shown sense.pay ts m0.locals b2.locals n (jumper_nest n) last N r refl refl (piece_shows g (Local (n.next + 2)) end (n.next + 3) b2 last N piece) ∙ ap (λ j. part sense.pay ts m0.locals n j fresh last r) one
 
     does_from : (r : S) → sense.stands r b2 → Does sense ts r b2 ran (jumper_nest n)
-    does_from r h = mean.does ts r b2 (piece_fits g (Local (n.next + 2)) end (n.next + 3) b2 last N piece) h
+    does_from r h = mean.does ts r b2 (piece_fits g (Local (n.next + 2)) end (n.next + 3) b2 last N piece) (piece_jumps g (Local (n.next + 2)) end (n.next + 3) b2 last N piece) h
 
     did : Does sense ts come b2 ran (jumper_nest n)
     did = does_from come (spared sense g.law flag_last.stopped skipped b2 stands_skipped)
@@ -421,9 +421,18 @@ module _ {S : Type 0} (layout : Layout) (sense : Sense S) (n : Nest S) (room : n
   jumper_does : Does sense ts s m0 (meaning layout (jumper_code n a) m0) n
   jumper_does = loop_does g joint codes (λ v m long alive more. turned v m (record { joint_steady = joint_steady; long = long; alive = alive; more = more }))
 
-pub jumper_means : {S : Type 0} (layout : Layout) (sense : Sense S) → Lawful sense → (n : Nest S) → Separate n → Onward sense n.body → n.next + 2 < layout.locals → 0 < length (walkers jumper n.reads) → CanJump layout sense n
+pub jumper_means : {S : Type 0} (layout : Layout) (sense : Sense S) → Lawful sense → (n : Nest S) → Separate n → Onward sense n.body → n.next + 2 < layout.locals → 0 < length (walkers jumper n.reads)
     → Idle sense ⊎ (CountsOne jumper n.counts n.reads × Commutes sense n.body) → (a : Code) → Means layout sense a (jumper_nest n) → Means layout sense (jumper_code n a) n
-jumper_means layout sense law n apart on room some can pays a mean = record {
-  does = λ ts s m fits r.
-      jumper_does layout sense n room some pays a mean ts s m (record { law = law; walk = jumpers_walk; apart = apart; onward = on; room = omega (arith, room); fits = fits; stands = r }) (can ts m fits);
+jumper_means layout sense law n apart on room some pays a mean = record {
+  does = λ ts s m fits jumps r. jumper_does layout sense n room some pays a mean ts s m (record {
+    law = law;
+    walk = jumpers_walk;
+    apart = apart;
+    onward = on;
+    room = omega (arith, room);
+    fits = fits;
+    from = insides_from jumper jumper_child n.hi n.reads;
+    jumps = jumps;
+    stands = r;
+  });
 }

@@ -3,6 +3,7 @@ pub mod Phases
 pub mod Divisions
 pub mod Sequences
 pub mod Walks
+pub mod Origins
 pub mod Joints
 pub mod Placing
 pub mod Insides

@@ -16,13 +16,14 @@ use Rattle.fin_looplet.specs.declared.looplet.Looplet.{Looplet}
 use Rattle.fin_looplet.specs.Names.{Names, Loads}
 use Rattle.fin_looplet.specs.View.{Store, value}
 use Rattle.fin_looplet.proofs.Exprs.{get, value_same}
-use Rattle.fin_nest.specs.Nests.{Flags, fresh, flag_at, paid_at, Nest, Sense, at_flags, part, Kept, Separate, Fits, Does}
+use Rattle.fin_nest.specs.Nests.{Flags, fresh, flag_at, paid_at, Nest, Sense, at_flags, part, Kept, Separate, Jumps, Fits, Does}
 use Rattle.fin_nest.specs.Laws.{Lawful, Onward}
 use Rattle.fin_nest.proofs.Still.{stills, step_turn_still}
 use Rattle.fin_nest.proofs.Turns.{step_rule}
 use Rattle.fin_nest.proofs.Statements.{all_append}
 use Rattle.fin_nest.proofs.Means.{computes}
-use Rattle.fin_style_step.specs.Steps.{walkers, Among, place}
+use Rattle.fin_nest.proofs.Jumping.{AllFrom}
+use Rattle.fin_style_step.specs.Steps.{walkers, Among, place, insides}
 use Rattle.fin_style_step.proofs.Walks.{Kind, any_walks}
 use Rattle.fin_style_step.proofs.Joints.{at_most}
 use Rattle.fin_style_step.proofs.Placing.{Cursor, Placed, placed_from, Placing, places, cursor_owned, distinct, clear}
@@ -35,6 +36,8 @@ pub record Loop {S : Type 0} (layout : Layout) (sense : Sense S) (n : Nest S) (k
   pub onward : Onward sense n.body
   pub room : n.next + 1 < layout.locals
   pub fits : Fits layout ts m0 n
+  pub from : AllFrom n.reads (insides kind n.hi n.reads)
+  pub jumps : Jumps sense ts m0.locals n
   pub stands : sense.stands s m0
 
 module _ {S : Type 0} {layout : Layout} {sense : Sense S} {n : Nest S} {kind : Looplet → Option Walker} {ts : Store} {s : S} {m0 : Machine} (g : Loop layout sense n kind ts s m0) where

@@ -5,10 +5,10 @@ use borrow.Author.Differences.{same_in, sum_is_lem}
 use Rattle.fin_ir.specs.Machine.{Machine}
 use Rattle.fin_looplet.specs.View.{Store}
 use Rattle.fin_looplet.specs.Lists.{seens}
-use Rattle.fin_nest.specs.Nests.{Flags, flag_at, Nest, Sense, paid_if, views_of, at_act, at_flags, part}
+use Rattle.fin_nest.specs.Nests.{Flags, flag_at, Nest, Sense, paid_if, views_of, at_act, at_flags, part, Silent}
 use Rattle.fin_nest.specs.Laws.{Lawful}
 use Rattle.fin_nest.proofs.Folds.{over_parts, further}
-use Rattle.fin_style_step.specs.Laws.{Commutes, Silent}
+use Rattle.fin_style_step.specs.Laws.{Commutes}
 
 pub spared : {S : Type 0} (sense : Sense S) → Lawful sense → (b : Bool) (s : S) (m : Machine) → sense.stands s m → sense.stands (paid_if sense.pay b s) m
 spared sense law true s m r = law.spare s m r

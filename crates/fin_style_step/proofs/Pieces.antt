@@ -1,5 +1,6 @@
--- A piece of a region up to the stops: in a machine whose cursors are placed the part fits, and shows what the nest shows.
-use Rattle.std.proofs.Common.{◌≡◌, ℕ, ◌+◌, ◌<◌, ◌^◌, List, length, false, true, Option, sym, ◌∙◌, subst, ℤ, pos, ◌+ℤ◌, ◌≤ℤ◌, ◌<ℤ◌, arith, inl}
+-- A piece of a region up to the stops: in a machine whose cursors are placed the part fits, shows what the nest
+-- shows, and has its condition on jumpers.
+use Rattle.std.proofs.Common.{◌≡◌, ℕ, ◌+◌, ◌<◌, ◌^◌, List, length, false, true, Option, refl, sym, ◌∙◌, subst, ℤ, pos, ◌+ℤ◌, ◌≤ℤ◌, ◌<ℤ◌, arith, inl}
 use borrow.Author.Differences.{up, down, sum_is_lem, lt_out, le_out, below_in, at_most_in}
 use Rattle.fin_ir.specs.declared.expression.IExpr.{IExpr}
 use Rattle.fin_ir.specs.declared.layout.Layout.{Layout}
@@ -10,9 +11,10 @@ use Rattle.fin_looplet.specs.View.{Store, value}
 use Rattle.fin_looplet.specs.Sound.{Near}
 use Rattle.fin_looplet.specs.Lists.{AllSound}
 use Rattle.fin_looplet.proofs.Exprs.{get, value_same}
-use Rattle.fin_nest.specs.Nests.{Nest, Sense, Kept, Bounds, AllSoundIn, Fits}
+use Rattle.fin_nest.specs.Nests.{Nest, Sense, Kept, Bounds, AllSoundIn, Jumps, Fits}
 use Rattle.fin_nest.proofs.Folds.{Shows}
 use Rattle.fin_nest.proofs.Means.{near_in}
+use Rattle.fin_nest.proofs.Jumping.{jumps_on}
 use Rattle.fin_style_step.specs.Steps.{walkers, Among, stop_at, insides}
 use Rattle.fin_style_step.proofs.Walks.{any_walks}
 use Rattle.fin_style_step.proofs.Joints.{at_most}
@@ -106,3 +108,8 @@ module _ {S : Type 0} {layout : Layout} {sense : Sense S} {n : Nest S} {kind : L
       bounds = subst (λ z. Bounds z (value ts x.locals hi)) (sym p.from) (subst (λ z. Bounds v z) (sym p.to) piece_bounds);
       sound = piece_sound;
     }
+
+    pub piece_jumps : Jumps sense ts x.locals (part_nest n lo hi next (insides kind n.hi n.reads))
+    piece_jumps =
+        jumps_on sense ts m0.locals x.locals n (part_nest n lo hi next (insides kind n.hi n.reads)) v e refl piece_shows g.from
+        (at_most_in (Lo g) v p.low) (at_most_in e (Hi g) p.end) g.jumps

@@ -25,17 +25,19 @@ use Rattle.fin_looplet.specs.Lists.{views, AllSound, AnyFree, AnyLoads}
 use Rattle.fin_looplet.specs.Weight.{is_point}
 use Rattle.fin_looplet.proofs.Exprs.{get, value_same, loads_two, loads_local, names_local}
 use Rattle.fin_looplet.proofs.Lists.{views_same, all_same}
-use Rattle.fin_nest.specs.Nests.{fresh, flag_at, paid_at, Nest, Sense, at_flags, part, fold, Kept, Separate, Bounds, Fits, Does, Means}
+use Rattle.fin_nest.specs.Nests.{fresh, flag_at, paid_at, Nest, Sense, at_flags, part, fold, Kept, Separate, Bounds, Jumps, Fits, Does, Means}
 use Rattle.fin_nest.specs.Laws.{Lawful, Onward}
 use Rattle.fin_nest.proofs.Still.{stills}
 use Rattle.fin_nest.proofs.Folds.{over_cut, Shows, shown, paid_at_on, cut_stands}
 use Rattle.fin_nest.proofs.Means.{unbound, near_in, with_local, assigns, computes}
+use Rattle.fin_nest.proofs.Jumping.{AllFrom, jumps_within}
 use Rattle.fin_style_step.specs.Steps.{Division, first_sequence, here_nest, others_nest, divide_at, sequence_code}
 use Rattle.fin_style_step.specs.Laws.{SequenceSplits}
 use Rattle.fin_style_step.proofs.Divisions.{AllWithin, Divided, divided, all_like}
 use Rattle.fin_style_step.proofs.Narrowing.{Sees, separate_part}
+use Rattle.fin_style_step.proofs.Origins.{sequence_parts_from}
 
-module _ {S : Type 0} (layout : Layout) (sense : Sense S) (law : Lawful sense) (n : Nest S) (apart : Separate n) (on : Onward sense n.body) (room : n.next < layout.locals) (d : Division) (div : Divided n.hi n.reads d)
+module _ {S : Type 0} (layout : Layout) (sense : Sense S) (law : Lawful sense) (n : Nest S) (apart : Separate n) (on : Onward sense n.body) (room : n.next < layout.locals) (d : Division) (div : Divided n.hi n.reads d) (from : AllFrom n.reads d.here × AllFrom n.reads d.others)
     (a b : Code) (mean_a : Means layout sense a (here_nest n d.here)) (mean_b : Means layout sense b (others_nest n d.others)) where
   kept_here : (x : ℕ) → Kept n x → Kept (here_nest n d.here) x
   kept_here x k = let w = k.below in record { below = omega (arith, w); no_var = k.no_var; no_own = λ o. k.no_own (div.here.owns x o) }
@@ -53,7 +55,7 @@ module _ {S : Type 0} (layout : Layout) (sense : Sense S) (law : Lawful sense) (
   at_loads : (t : ℕ) → Loads t (divide_at n.lo n.hi d.stop) → n.steady t ≡ true
   at_loads t l = ⊎_elim (apart.lo_loads t) (λ k. ⊎_elim (λ j. apart.loads t (div.stop_loads t j)) (apart.hi_loads t) (loads_two t op.Min d.stop n.hi k)) (loads_two t op.Max n.lo (Two op.Min d.stop n.hi) l)
 
-  module _ (ts : Store) (s : S) (m : Machine) (fits : Fits layout ts m n) (stands : sense.stands s m) where
+  module _ (ts : Store) (s : S) (m : Machine) (fits : Fits layout ts m n) (jumps : Jumps sense ts m.locals n) (stands : sense.stands s m) where
     abbrev ls : List ℤ
     ls = m.locals
 
@@ -174,8 +176,13 @@ module _ {S : Type 0} (layout : Layout) (sense : Sense S) (law : Lawful sense) (
       sound = sound_a;
     }
 
+    jumps_a : Jumps sense ts m1.locals (here_nest n d.here)
+    jumps_a =
+        jumps_within sense ts m.locals m1.locals n (here_nest n d.here) Lo Cut refl shows_a from.0
+        (λ i low next. (low, (before_cut (i +ℤ pos 1) (at_most_in Lo (i +ℤ pos 1) (omega (arith, le_out Lo i low, sum_is_lem i (pos 1)))) next).1)) jumps
+
     does_a : Does sense ts s m1 m2 (here_nest n d.here)
-    does_a = mean_a.does ts s m1 fits_a stands1
+    does_a = mean_a.does ts s m1 fits_a jumps_a stands1
 
     abbrev s2 : S
     s2 = part sense.pay ts m.locals n (span Lo Cut) fresh Lo s
@@ -243,8 +250,13 @@ module _ {S : Type 0} (layout : Layout) (sense : Sense S) (law : Lawful sense) (
             subst (λ z. AllSound Near ts m2.locals d.others (λ j. j <ℤ z) i) (sym hi2) q2;
       }
 
+      jumps_b : Jumps sense ts m2.locals (others_nest n d.others)
+      jumps_b =
+          jumps_within sense ts m.locals m2.locals n (others_nest n d.others) Cut Hi refl shows_b from.1
+          (λ i low next. ((after_cut i low (below_in i Hi (omega (arith, lt_out (i +ℤ pos 1) Hi next, sum_is_lem i (pos 1))))).1, next)) jumps
+
       does_b : Does sense ts s3 m2 m3 (others_nest n d.others)
-      does_b = mean_b.does ts s3 m2 fits_b stands3
+      does_b = mean_b.does ts s3 m2 fits_b jumps_b stands3
 
       alive_done : sense.stands (part sense.pay ts m.locals n (span Cut Hi) fresh Cut s3) m3
       alive_done = subst (λ z. sense.stands z m3) (shown sense.pay ts m.locals m2.locals n (others_nest n d.others) Cut Hi s3 refl refl shows_b) does_b.done
@@ -355,7 +367,7 @@ pub sequence_splits : {S : Type 0} (layout : Layout) (sense : Sense S) → Lawfu
 sequence_splits layout sense law n d e =
     let w = divided n.hi n.reads d e in
     record {
-      means = λ apart on room a b ma mb. record { does = λ ts s m fits r. sequence_does layout sense law n apart on room d w a b ma mb ts s m fits r };
+      means = λ apart on room a b ma mb. record { does = λ ts s m fits j r. sequence_does layout sense law n apart on room d w (sequence_parts_from n.hi n.reads d e) a b ma mb ts s m fits j r };
       lighter = (omega (arith, w.here.lighter, region_light (is_point n.lo (Local n.next))), omega (arith, w.others.lighter, region_light (is_point (Local n.next) n.hi)));
       separate = λ s. (here_separate n d.here w.here s, others_separate n d.others w.others s);
     }

@@ -191,7 +191,7 @@ module _ {S : Type 0} (layout : Layout) (sense : Sense S) (law : Lawful sense) (
       let split = jumper_splits layout sense law (whole b n) in
       let part = subst (λ (z : Nest S). Means layout sense x z) (sym (jumper_is_nest b n)) m.0.means in
       let j = asked.jumps w.is in
-      let means = split.means asked.separate asked.onward asked.room w.some j.0 j.1 x part in
+      let means = split.means asked.separate asked.onward asked.room w.some j x part in
       let ws = walkers_joined jumper (looplets n.reads) (looplets n.masks) in
       subst Goal (sym (fill_jumps (nest_walkers kind.Jumper n) n.next n.lo n.hi (greatest (nest_walkers kind.Jumper n) (Num (pos 0))) x ∙ ap (λ (vs : List Walker). jumps_code vs n.next n.lo n.hi x) ws))
       (meant (jumper_nest (whole b n)) (split.lighter w.some) (jumps_code (walkers jumper (all_looplets n)) n.next n.lo n.hi x) means)

@@ -24,12 +24,13 @@ use Rattle.fin_nest.proofs.Folds.{shown}
 use Rattle.fin_style_step.specs.Steps.{stepper, walkers, Among, stop_at, place, insides, least, stepper_nest, stepper_code}
 use Rattle.fin_style_step.specs.Laws.{Idle, Counted}
 use Rattle.fin_style_step.proofs.Walks.{steppers_walk, any_walks, all_counted}
+use Rattle.fin_style_step.proofs.Origins.{stepper_child, insides_from}
 use Rattle.fin_style_step.proofs.Joints.{at_most, least_under, least_is, least_over, least_loads}
 use Rattle.fin_style_step.proofs.InsideLocals.{insides_owns}
 use Rattle.fin_style_step.proofs.Narrowing.{part_kept, new_kept}
 use Rattle.fin_style_step.proofs.Loops.{Loop, Lo, Hi, after, flags, ready, Inv, stop_of, turn_of, loop_does}
 use Rattle.fin_style_step.proofs.Turns.{Turn, Joint, next, now, begun, first_placed, first_kept, begun_placed, begun_long, sees_kept, at_var, at_until, steady_m, sound_v, v_hi, next_above, next_end, next_reached, stands_begun, turn_after, idle_pays, ready_is, flags_are, Ran, turn_ends}
-use Rattle.fin_style_step.proofs.Pieces.{Piece, stop_is, stop_over, piece_shows, piece_fits}
+use Rattle.fin_style_step.proofs.Pieces.{Piece, stop_is, stop_over, piece_shows, piece_fits, piece_jumps}
 
 module _ {S : Type 0} (layout : Layout) (sense : Sense S) (n : Nest S) (pays : Idle sense ⊎ Counted stepper n.counts n.reads) (a : Code) (mean : Means layout sense a (stepper_nest n)) (ts : Store) (s : S) (m0 : Machine) (g : Loop layout sense n stepper ts s m0) where
   abbrev ws : List Walker
@@ -98,7 +99,8 @@ module _ {S : Type 0} (layout : Layout) (sense : Sense S) (n : Nest S) (pays : I
     ran = meaning layout a set
 
     did : Does sense ts (ready g v) set ran (stepper_nest n)
-    did = mean.does ts (ready g v) set (piece_fits g (Local n.next) (Local (n.next + 1)) (n.next + 2) set v N piece) (stands_begun g joint v m k)
+    did = mean.does ts (ready g v) set (piece_fits g (Local n.next) (Local (n.next + 1)) (n.next + 2) set v N piece)
+        (piece_jumps g (Local n.next) (Local (n.next + 1)) (n.next + 2) set v N piece) (stands_begun g joint v m k)
 
     -- the turn leads to the state at its end
     part_is : fold sense.pay ts set.locals (stepper_nest n) (ready g v) ≡ after g (span (Lo g) N)
@@ -178,5 +180,15 @@ module _ {S : Type 0} (layout : Layout) (sense : Sense S) (n : Nest S) (pays : I
 pub stepper_means : {S : Type 0} (layout : Layout) (sense : Sense S) → Lawful sense → (n : Nest S) → Separate n → Onward sense n.body → n.next + 1 < layout.locals → Idle sense ⊎ Counted stepper n.counts n.reads
     → (a : Code) → Means layout sense a (stepper_nest n) → Means layout sense (stepper_code n a) n
 stepper_means layout sense law n apart on room pays a mean = record {
-  does = λ ts s m fits r. stepper_does layout sense n pays a mean ts s m (record { law = law; walk = steppers_walk; apart = apart; onward = on; room = room; fits = fits; stands = r });
+  does = λ ts s m fits jumps r. stepper_does layout sense n pays a mean ts s m (record {
+    law = law;
+    walk = steppers_walk;
+    apart = apart;
+    onward = on;
+    room = room;
+    fits = fits;
+    from = insides_from stepper stepper_child n.hi n.reads;
+    jumps = jumps;
+    stands = r;
+  });
 }

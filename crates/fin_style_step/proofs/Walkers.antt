@@ -72,7 +72,7 @@ stepper_splits layout sense law n = record {
 
 pub jumper_splits : {S : Type 0} (layout : Layout) (sense : Sense S) → Lawful sense → (n : Nest S) → JumperSplits layout sense n
 jumper_splits layout sense law n = record {
-  means = λ apart on room some can pays c mean. jumper_means layout sense law n apart on room some can pays c mean;
+  means = λ apart on room some pays c mean. jumper_means layout sense law n apart on room some pays c mean;
   lighter = λ some. omega (arith, insides_lighter jumper jumpers_walk n.hi n.reads some, region_light (is_point (Local (n.next + 2)) (plus (Local (n.next + 2)) (Num (pos 1)))));
   separate = jumper_separate n;
 }

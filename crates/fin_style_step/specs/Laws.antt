@@ -1,19 +1,17 @@
 -- What each step keeps: code that means the parts, with the code between them, means the nest; the parts weigh less; and
 -- none depends on what its code changes.
-use Rattle.std.specs.Prelude.{◌≡◌, ◌⊎◌, ◌+◌, ◌<◌, List, [], ◌∷◌, length, Bool, true, false, Option, Some, ℤ, pos, ◌+ℤ◌, ◌≤ℤ◌, ◌<ℤ◌}
+use Rattle.std.specs.Prelude.{◌≡◌, ◌⊎◌, ◌+◌, ◌<◌, List, [], ◌∷◌, length, Bool, true, Option, Some, ℤ}
 use Rattle.fin_ir.specs.declared.code.Code.{Code}
 use Rattle.fin_ir.specs.declared.layout.Layout.{Layout}
-use Rattle.fin_ir.specs.Machine.{Machine}
 use Rattle.fin_looplet.specs.declared.looplet.Walker.{Walker}
 use Rattle.fin_looplet.specs.declared.looplet.Looplet.{Looplet}
-use Rattle.fin_looplet.specs.View.{Store, value, Seen}
-use Rattle.fin_looplet.specs.Lists.{seens, any_ends}
+use Rattle.fin_looplet.specs.View.{Seen}
 use Rattle.fin_looplet.specs.Weight.{weight_of}
 use Rattle.fin_nest.specs.Related.{Start}
-use Rattle.fin_nest.specs.Nests.{Body, Nest, Sense, views_of, Separate, Fits, Means}
+use Rattle.fin_nest.specs.Nests.{Body, Nest, Sense, Separate, Means}
 use Rattle.fin_nest.specs.Laws.{Onward}
 use Rattle.fin_nest.specs.Senses.{runs, turns}
-use Rattle.fin_style_step.specs.Steps.{Division, first_sequence, here_nest, others_nest, sequence_code, stepper, jumper, walkers, Among, stop_at, stepper_nest, stepper_code, jumper_nest, jumper_code}
+use Rattle.fin_style_step.specs.Steps.{Division, first_sequence, here_nest, others_nest, sequence_code, stepper, jumper, walkers, stepper_nest, stepper_code, jumper_nest, jumper_code}
 
 abbrev pub Lighter : {S : Type 0} → Nest S → Nest S → Type 0
 Lighter part n = weight_of part.reads part.lo part.hi < weight_of n.reads n.lo n.hi
@@ -67,31 +65,8 @@ SteppersSplit = (s : Start) (layout : Layout)
 
 -- ---- jumper
 
--- the body is nothing at the coordinate: a machine that stands for a state stands for what the body makes of it
-abbrev pub Silent : {S : Type 0} → Sense S → Store → List ℤ → Nest S → ℤ → Type 0
-Silent sense ts ls n i = (begins : Bool) (s : _) (m : Machine) → sense.stands s m
-    → sense.stands (n.body (seens (views_of ts ls n i)) begins i s) m
-
--- some jumper at the head doesn't stop behind the coordinate
-pub record Passes {S : Type 0} (ts : Store) (ls : List ℤ) (n : Nest S) (i : ℤ) : Type 0 where
-  pub from : value ts ls n.lo ≤ℤ i
-  pub inside : (i +ℤ pos 1) <ℤ value ts ls n.hi
-  pub by : Walker
-  pub among : Among by (walkers jumper n.reads)
-  pub over : (i +ℤ pos 1) <ℤ stop_at ts ls by i
-
--- The condition on jumpers. At a coordinate that one passes, the body is nothing; and where no part ends there, at the
--- next one it does the same whether a part begins or not.
-pub record Jumps {S : Type 0} (sense : Sense S) (ts : Store) (ls : List ℤ) (n : Nest S) : Type 0 where
-  pub silent : (i : ℤ) → Passes ts ls n i → Silent sense ts ls n i
-  pub flagless : (i : ℤ) → Passes ts ls n i → any_ends (views_of ts ls n i) ≡ false → (s : S)
-      → n.body (seens (views_of ts ls n (i +ℤ pos 1))) false (i +ℤ pos 1) s ≡ n.body (seens (views_of ts ls n (i +ℤ pos 1))) true (i +ℤ pos 1) s
-
-abbrev pub CanJump : {S : Type 0} → Layout → Sense S → Nest S → Type 0
-CanJump layout sense n = (ts : Store) (m : Machine) → Fits layout ts m n → Jumps sense ts m.locals n
-
 pub record JumperSplits {S : Type 0} (layout : Layout) (sense : Sense S) (n : Nest S) : Type 0 where
-  pub means : Separate n → Onward sense n.body → n.next + 2 < layout.locals → 0 < length (walkers jumper n.reads) → CanJump layout sense n
+  pub means : Separate n → Onward sense n.body → n.next + 2 < layout.locals → 0 < length (walkers jumper n.reads)
       → Idle sense ⊎ (CountsOne jumper n.counts n.reads × Commutes sense n.body)
       → (c : Code) → Means layout sense c (jumper_nest n) → Means layout sense (jumper_code n c) n
   pub lighter : 0 < length (walkers jumper n.reads) → Lighter (jumper_nest n) n

@@ -13,20 +13,18 @@ use Rattle.fin_nest.specs.Styles as style
 use Rattle.fin_style_step.specs.declared.nest.Nest.{Nest}
 use Rattle.fin_style_step.specs.declared.nest.Parts.{Parts}
 use Rattle.fin_style_step.specs.Steps.{stepper, jumper}
-use Rattle.fin_style_step.specs.Laws.{Idle, Counted, CountsOne, Commutes, CanJump}
+use Rattle.fin_style_step.specs.Laws.{Idle, Counted, CountsOne, Commutes}
 use Rattle.fin_style_step.specs.Parts.{all_looplets, course_of, parts_of}
 
 -- What stands behind a nest, so that its parts split it: the nest depends on nothing that its code changes, its body
--- goes on where a machine was cut, there are locals for the step; stops that count pay for the turns; and jumpers pass
--- over coordinates where the body is nothing.
+-- goes on where a machine was cut, there are locals for the step; and stops that count pay for the turns.
 pub record Asked {S : Type 0} (layout : Layout) (sense : Sense S) (b : Behind S) (n : Nest) : Type 0 where
   pub separate : Separate (nest_with b (course_of n))
   pub onward : Onward sense b.body
   pub room : n.next + 2 < layout.locals
   pub steps : style.style_of (all_looplets n) ≡ style.stepper → Idle sense ⊎ Counted stepper b.counts (all_looplets n)
   pub jumps : style.style_of (all_looplets n) ≡ style.jumper
-      → CanJump layout sense (nest_with b (course_of n))
-      × (Idle sense ⊎ (CountsOne jumper b.counts (all_looplets n) × Commutes sense b.body))
+      → Idle sense ⊎ (CountsOne jumper b.counts (all_looplets n) × Commutes sense b.body)
 
 -- codes that mean the parts, in the frame, mean the nest
 abbrev pub SplitsIn : {S : Type 0} → Layout → Sense S → Parts → Nest → Type 0

@@ -8,9 +8,10 @@
 //!
 //! The laws say of each step, in both senses of nests, when code that means the parts, with the code between them,
 //! means the nest. In turns, what a loop counts is paid by stops: each turn of steppers by a stop of one that counts,
-//! each turn of jumpers by a counted stop that it comes to or passes. For jumpers the body is nothing at the coordinates
-//! that are passed. Where a nest has a looplet of the step's style, each part weighs less; and no part depends on what
-//! its code changes. What a part's body does is left to its code.
+//! each turn of jumpers by a counted stop that it comes to or passes. Code means a nest where the body is nothing at the
+//! coordinates that jumpers may pass over (`Jumps` of `fin_nest`); where that holds of a nest, it holds of each part when
+//! the code between them comes to it. Where a nest has a looplet of the step's style, each part weighs less; and no part
+//! depends on what its code changes. What a part's body does is left to its code.
 #![tactic(auto)]
 
 mod codes;
