@@ -1,13 +1,14 @@
--- The body that goes by what is seen goes on, and does the same at points, without flags, and where nothing is left.
-use Rattle.std.proofs.Common.{◌≡◌, ℕ, ℤ, Bool, true, false, ◌&&◌, List, [], ◌∷◌, Option, refl, sym, ap, ◌∙◌, arith, subst, if◌then◌else◌}
+-- The body that goes by what is seen goes on, and does the same at points, without flags, and where nothing is left; so
+-- jumpers pass over it.
+use Rattle.std.proofs.Common.{◌≡◌, ℕ, ℤ, pos, ◌+ℤ◌, Bool, true, false, ◌&&◌, List, [], ◌∷◌, Option, refl, sym, ap, ◌∙◌, arith, subst, if◌then◌else◌}
 use Rattle.std.proofs.Math.Path.{fun_ext}
 use Rattle.std.specs.Prelude.{map, slice_set}
 use Rattle.std.specs.Option.{option_or}
 use Rattle.fin_ast.specs.Value.{Numbers}
 use Rattle.fin_stage.specs.Staged.{Run, worked}
-use Rattle.fin_looplet.specs.View.{Sight, Seen}
+use Rattle.fin_looplet.specs.View.{Store, Sight, Seen}
 use Rattle.fin_looplet.specs.Lists.{seens}
-use Rattle.fin_nest.specs.Nests.{Body, views_of}
+use Rattle.fin_nest.specs.Nests.{Nest, Body, views_of}
 use Rattle.fin_nest.specs.Laws.{bare, AtPoints}
 use Rattle.fin_nest.specs.Senses.{runs, turns, Tallied, Advances}
 use Rattle.fin_nest.proofs.Both.{cut_statements_stand}
@@ -15,7 +16,7 @@ use Rattle.fin_simp.specs.Left.{Marks}
 use Rattle.fin_simp.specs.Rest.{Rest, Kind, Nothing as NoKind, OneUpdate, Other, is_none_kind}
 use Rattle.fin_simp.specs.Work.{is_one_update, costing, first_share}
 use Rattle.fin_drive.specs.Turns.{Slot, Driving, Waiting, Testing, Watched, fill_by, word_by, first_known, marks_seen, rest_seen, is_fixed_seen, seen_turn}
-use Rattle.fin_drive.specs.Bodies.{tallied_turn, GoesOn, UpdatesOnce, BodiesGoOn, BodiesAtPoints, BodiesAreFlagless, BodiesAreNothing}
+use Rattle.fin_drive.specs.Bodies.{tallied_turn, GoesOn, UpdatesOnce, BodiesGoOn, BodiesAtPoints, BodiesAreFlagless, BodiesAreNothing, BodiesJump}
 
 -- ---- it goes on
 
@@ -138,4 +139,32 @@ bodies_are_nothing s x = (
       let ss = seens (views_of ts ls n i) in
       subst (λ (y : Tallied). (turns s).stands y m)
       (sym (ap (λ (y : Body Tallied). y ss b i t) e ∙ ap (λ (r : Run). record { run = r; tally = t.tally; owed = t.owed }) (turn_nothing x ss b i t.run (none ts ls i)))) stands,
+)
+
+-- ---- and at coordinates that are passed over
+
+runs_alike : (x : Watched) (n : Nest Run) (e : n.body ≡ seen_turn x) (ts : Store) (ls : List ℤ) (i : ℤ) → is_none_kind (rest_seen x (seens (views_of ts ls n i))).kind ≡ true → (b : Bool) (r : Run)
+    → n.body (seens (views_of ts ls n i)) b i r ≡ r
+runs_alike x n e ts ls i none b r =
+    let ss = seens (views_of ts ls n i) in
+    ap (λ (y : Body Run). y ss b i r) e ∙ turn_nothing x ss b i r none
+
+tallies_alike : (x : Watched) (n : Nest Tallied) (e : n.body ≡ tallied_turn x) (ts : Store) (ls : List ℤ) (i : ℤ) → is_none_kind (rest_seen x (seens (views_of ts ls n i))).kind ≡ true → (b : Bool) (t : Tallied)
+    → n.body (seens (views_of ts ls n i)) b i t ≡ t
+tallies_alike x n e ts ls i none b t =
+    let ss = seens (views_of ts ls n i) in
+    ap (λ (y : Body Tallied). y ss b i t) e ∙ ap (λ (r : Run). record { run = r; tally = t.tally; owed = t.owed }) (turn_nothing x ss b i t.run none)
+
+pub bodies_jump : BodiesJump
+bodies_jump s x ts ls = (
+  λ n e p. record {
+    simple = p.simple;
+    silent = λ i q b r m stands. subst (λ (y : Run). (runs s).stands y m) (sym (runs_alike x n e ts ls i (p.here i q) b r)) stands;
+    flagless = λ i q ends r. runs_alike x n e ts ls (i +ℤ pos 1) (p.next i q ends) false r ∙ sym (runs_alike x n e ts ls (i +ℤ pos 1) (p.next i q ends) true r);
+  },
+  λ n e p. record {
+    simple = p.simple;
+    silent = λ i q b t m stands. subst (λ (y : Tallied). (turns s).stands y m) (sym (tallies_alike x n e ts ls i (p.here i q) b t)) stands;
+    flagless = λ i q ends t. tallies_alike x n e ts ls (i +ℤ pos 1) (p.next i q ends) false t ∙ sym (tallies_alike x n e ts ls (i +ℤ pos 1) (p.next i q ends) true t);
+  },
 )

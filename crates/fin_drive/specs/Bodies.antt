@@ -1,11 +1,12 @@
 -- What the steps of nests ask of a body, of the one that goes by what is seen.
-use Rattle.std.specs.Prelude.{◌≡◌, true, false, ℤ, List, Some}
+use Rattle.std.specs.Prelude.{◌≡◌, true, false, ℤ, pos, ◌+ℤ◌, List, Some}
 use Rattle.fin_ast.specs.Value.{Numbers}
 use Rattle.fin_stage.specs.Staged.{Run, worked}
 use Rattle.fin_looplet.specs.View.{Store}
-use Rattle.fin_looplet.specs.Lists.{seens}
+use Rattle.fin_looplet.specs.Lists.{seens, any_ends}
 use Rattle.fin_nest.specs.Related.{Start}
-use Rattle.fin_nest.specs.Nests.{Nest, Body, views_of}
+use Rattle.fin_nest.specs.Jumping.{AllSimplyJump}
+use Rattle.fin_nest.specs.Nests.{Nest, Body, views_of, Passes, Jumps}
 use Rattle.fin_nest.specs.Laws.{Onward, Flagless, AtPoints, Nothing}
 use Rattle.fin_nest.specs.Senses.{runs, turns, Tallied, Advances}
 use Rattle.fin_nest.specs.Both.{in_run}
@@ -64,6 +65,19 @@ abbrev pub BodiesAreNothing : Type 0
 BodiesAreNothing = (s : Start) (x : Watched)
     → ((n : Nest Run) → n.body ≡ seen_turn x → NothingSeen x n → Nothing (runs s) n)
     × ((n : Nest Tallied) → n.body ≡ tallied_turn x → NothingSeen x n → Nothing (turns s) n)
+
+-- at each coordinate that jumpers may pass over nothing is left, nor at the next one, where no part ends between them
+pub record PassesNothing {S : Type 0} (x : Watched) (ts : Store) (ls : List ℤ) (n : Nest S) : Type 0 where
+  pub simple : AllSimplyJump n.reads
+  pub here : (i : ℤ) → Passes ts ls n i → is_none_kind (rest_seen x (seens (views_of ts ls n i))).kind ≡ true
+  pub next : (i : ℤ) → Passes ts ls n i → any_ends (views_of ts ls n i) ≡ false
+      → is_none_kind (rest_seen x (seens (views_of ts ls n (i +ℤ pos 1)))).kind ≡ true
+
+-- then the nest has the condition on jumpers
+abbrev pub BodiesJump : Type 0
+BodiesJump = (s : Start) (x : Watched) (ts : Store) (ls : List ℤ)
+    → ((n : Nest Run) → n.body ≡ seen_turn x → PassesNothing x ts ls n → Jumps (runs s) ts ls n)
+    × ((n : Nest Tallied) → n.body ≡ tallied_turn x → PassesNothing x ts ls n → Jumps (turns s) ts ls n)
 
 -- ---- the statements of programs
 

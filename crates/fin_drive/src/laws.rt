@@ -5,7 +5,7 @@ ghost use Rattle.fin_drive.specs.Stopping.{StopsAdd};
 ghost use Rattle.fin_drive.specs.Loops.{LoopletsShow};
 ghost use Rattle.fin_drive.specs.Entries.{MadeNestsAreLoops, MadeNestsRun};
 ghost use Rattle.fin_drive.specs.Separation.{MadeKeepApart};
-ghost use Rattle.fin_drive.specs.Bodies.{BodiesGoOn, BodiesAtPoints, BodiesAreFlagless, BodiesAreNothing, StatementsGoOn, StatementsUpdateOnce};
+ghost use Rattle.fin_drive.specs.Bodies.{BodiesGoOn, BodiesAtPoints, BodiesAreFlagless, BodiesAreNothing, BodiesJump, StatementsGoOn, StatementsUpdateOnce};
 
 use fin_simp::masks_compare;
 
@@ -43,6 +43,11 @@ pub fn bodies_are_flagless()
 /// Where nothing is left of the body by what is seen, it is nothing.
 pub fn bodies_are_nothing()
     ensures { BodiesAreNothing }
+{}
+
+/// And where nothing is left at the coordinates that jumpers may pass over, the nest has the condition on jumpers.
+pub fn bodies_jump()
+    ensures { BodiesJump }
 {}
 
 /// The statements of a program, as the definition of work runs them, take back no work and nothing that the run was

@@ -15,10 +15,10 @@ mod reading;
 mod reads;
 
 pub use laws::{
-    bodies_are_flagless, bodies_are_nothing, bodies_at_points, bodies_go_on, chunks_are_nests,
-    distances_mean, looplets_show, loops_are_nests, loops_fall_apart, made_keep_apart,
-    made_nests_are_loops, made_nests_run, masks_show, reads_show, statements_go_on,
-    statements_update_once, stops_add,
+    bodies_are_flagless, bodies_are_nothing, bodies_at_points, bodies_go_on, bodies_jump,
+    chunks_are_nests, distances_mean, looplets_show, loops_are_nests, loops_fall_apart,
+    made_keep_apart, made_nests_are_loops, made_nests_run, masks_show, reads_show,
+    statements_go_on, statements_update_once, stops_add,
 };
 pub use masks::tested;
 pub use reading::{Reading, Spot};
