@@ -69,7 +69,7 @@ module _ (n : Nest) (p : along.Parts) (q : Split) (frame : q.frame ≡ p.frame) 
         onward = onward;
         room = omega (arith, room, fits);
         steps = λ e. inl (λ r. refl);
-        jumps = λ e. (asks.jumps e, inl (λ r. refl));
+        jumps = λ e. inl (λ r. refl);
       } in
       let fills = (splits s layout).0 b asked in
       let c = points.course_of n in

@@ -1,5 +1,5 @@
 -- What a caller vouches for, and what the code of its nests then means, in values and charges.
-use Rattle.std.specs.Prelude.{◌≡◌, ℕ, ◌<◌, ◌≤◌, List, map}
+use Rattle.std.specs.Prelude.{ℕ, ◌<◌, ◌≤◌, List, map}
 use Rattle.std.specs.List.{All}
 use Rattle.fin_ir.specs.declared.code.Code.{Code}
 use Rattle.fin_ir.specs.declared.layout.Layout.{Layout}
@@ -9,11 +9,9 @@ use Rattle.fin_nest.specs.Nests.{Separate}
 use Rattle.fin_nest.specs.Laws.{Onward, Flagless, AtPoints, Nothing as IsNothing}
 use Rattle.fin_nest.specs.Senses.{runs}
 use Rattle.fin_nest.specs.Courses.{Behind, nest_with, Meant, MeantAll, Fills}
-use Rattle.fin_nest.specs.Styles as style
 use Rattle.fin_style_point.specs.declared.nest.Nest.{Nest}
 use Rattle.fin_style_point.specs.Steps.{AllFlat}
 use Rattle.fin_style_point.specs.Parts.{all_looplets, course_of}
-use Rattle.fin_style_step.specs.Laws.{CanJump}
 use Rattle.fin_descend.specs.declared.lowered.Lowered.{Lowered}
 use Rattle.fin_descend.specs.declared.lowered.Known.{Known}
 use Rattle.fin_descend.specs.declared.lowered.Known.TheVariants.{Nothing, AtOnce, Open}
@@ -38,11 +36,9 @@ abbrev pub MeansIn : Family → Lowered → Nest → Type 0
 MeansIn family l n = (s : Start) (layout : Layout) (b : Behind Run) → Stands family s layout b n
     → l.room ≤ layout.locals → Meant layout (runs s) (nest_with b (course_of n)) l.code
 
--- What a step asks of the body besides: over runs and lookups it does the same whether a part begins or not, and
--- jumpers pass over coordinates where it is nothing. Of a nest of another style it asks neither.
+-- What a step asks of the body besides: over runs and lookups it does the same whether a part begins or not.
 pub record Steps (s : Start) (layout : Layout) (b : Behind Run) (n : Nest) : Type 0 where
   pub flagless : AllFlat (all_looplets n) → Flagless (nest_with b (course_of n))
-  pub jumps : style.style_of (all_looplets n) ≡ style.jumper → CanJump layout (runs s) (nest_with b (course_of n))
 
 -- What is known of a nest: its body is nothing; or its code; or that it may be stepped, if it weighs something. Of one
 -- that weighs nothing the last owes nothing.

@@ -11,8 +11,9 @@
 //!
 //! The caller chooses what may stand behind the nests (`specs/Promises.antt`): what the loop does in the runs of a
 //! program. The code then means the nest in values and charges, in each layout with the locals that the code needs.
-//! Where jumpers come, the caller owes that they pass over coordinates where the body is nothing; of a loop whose nests
-//! hold none (`specs/Jumpless.antt`) it owes nothing for them, and the laws say that the parts hold none either.
+//! It does so where the body is nothing at the coordinates that jumpers may pass over (`Jumps` of `fin_nest`): who runs
+//! the loop owes that of the whole nest. Of a loop whose nests hold no jumpers (`specs/Jumpless.antt`) it owes nothing,
+//! and the laws say that the parts hold none either.
 #![tactic(auto)]
 
 mod bodies;
