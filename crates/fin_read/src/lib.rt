@@ -19,6 +19,6 @@ mod values;
 
 pub use counts::count_expr;
 pub use laws::{counts_mean, reads_mean, values_are_named, values_mean};
-pub use parts::push;
-pub use reads::in_box;
+pub use parts::{Place, push};
+pub use reads::{in_box, push_first, push_levels};
 pub use values::{Heads, Value, format_of, index_codes, push_value, shape_of};

@@ -10,7 +10,7 @@ use std::alloc::{AllocError, Global};
 
 /// A level of a tensor, and the local that has the position in it; the one behind is free for a step.
 #[derive(Clone, Copy)]
-pub(crate) struct Place {
+pub struct Place {
     pub tensor: u8,
     pub level: u8,
     pub at: u32,

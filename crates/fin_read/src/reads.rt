@@ -12,8 +12,8 @@ use fin_tensor::Level;
 use sqlite_items::Items;
 use std::alloc::{AllocError, Global};
 
-// Appends the step to the first position, or to none outside the box.
-pub(crate) fn push_first(
+/// Appends the step to the first position, or to none outside the box.
+pub fn push_first(
     alloc: Global,
     into: &mut Items<Code>,
     shape: &[u64],
@@ -46,7 +46,7 @@ pub(crate) fn push_last(
 
 /// Appends the steps through these levels.
 #[tactic(auto, using(crate::proofs::Fronts::small_part, crate::proofs::Fronts::levels_end))]
-pub(crate) fn push_levels(
+pub fn push_levels(
     alloc: Global,
     into: &mut Items<Code>,
     place: Place,
