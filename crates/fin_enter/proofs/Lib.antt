@@ -8,3 +8,4 @@ pub mod Sites
 pub mod Indices
 pub mod Together
 pub mod Entrances
+pub mod Masked

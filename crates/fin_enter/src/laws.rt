@@ -7,6 +7,7 @@ ghost use Rattle.fin_enter.specs.Sites.{FootedReadsStand, StoredReadsAreFound};
 ghost use Rattle.fin_enter.specs.Indices.{IndicesAreBound};
 ghost use Rattle.fin_enter.specs.Together.{AllPositionsAreFound};
 ghost use Rattle.fin_enter.specs.Entrances.{EntrancesAreMade};
+ghost use Rattle.fin_enter.specs.Masked.{AllBoundsMean, MasksAreTests};
 
 use fin_drive::distances_mean;
 use fin_read::values_mean;
@@ -82,3 +83,16 @@ pub fn entrances_are_made()
 pub fn stored_reads_are_found()
     ensures { StoredReadsAreFound }
 {}
+
+/// The masks of a loop are the tests that remain of its body and compare its variable with a bound.
+pub fn masks_are_tests()
+    ensures { MasksAreTests }
+{}
+
+/// The code of all bounds, one after another, leaves values that are the numbers of the bounds, and leaves the locals
+/// before as they were.
+pub fn all_bounds_mean()
+    ensures { AllBoundsMean }
+{
+    bounds_mean();
+}
