@@ -9,3 +9,5 @@ pub mod Indices
 pub mod Together
 pub mod Entrances
 pub mod Masked
+pub mod Entering
+pub mod EntryCodes

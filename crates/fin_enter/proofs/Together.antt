@@ -18,11 +18,11 @@ use Rattle.fin_enter.proofs.Positions.{positions_are_found}
 use Rattle.fin_enter.proofs.Sites.{driven_within}
 use Rattle.fin_enter.proofs.Indices.{indices_are_bound}
 
-place_grows : (o : Option (ℕ × Index)) (at : ℕ) → at ≤ behind_place o at
+pub place_grows : (o : Option (ℕ × Index)) (at : ℕ) → at ≤ behind_place o at
 place_grows None at = omega arith
 place_grows (Some d) at = omega arith
 
-places_grow : (l : Around) (reads : List Access) (at : ℕ) → at ≤ behind_all l reads at
+pub places_grow : (l : Around) (reads : List Access) (at : ℕ) → at ≤ behind_all l reads at
 places_grow l [] at = omega arith
 places_grow l (a ∷ reads) at =
     let next = behind_place (settled_index l a) at in

@@ -7,6 +7,8 @@ ghost use Rattle.fin_enter.specs.Sites.{FootedReadsStand, StoredReadsAreFound};
 ghost use Rattle.fin_enter.specs.Indices.{IndicesAreBound};
 ghost use Rattle.fin_enter.specs.Together.{AllPositionsAreFound};
 ghost use Rattle.fin_enter.specs.Entrances.{EntrancesAreMade};
+ghost use Rattle.fin_enter.specs.Entering.{EntriesAreEntrances};
+ghost use Rattle.fin_enter.specs.EntryCodes.{EntryCodesEnter};
 ghost use Rattle.fin_enter.specs.Masked.{AllBoundsMean, MasksAreTests};
 
 use fin_drive::distances_mean;
@@ -93,6 +95,22 @@ pub fn masks_are_tests()
 /// before as they were.
 pub fn all_bounds_mean()
     ensures { AllBoundsMean }
+{
+    bounds_mean();
+}
+
+/// Behind the steps of a loop's entry, which leave positions and bounds in locals, a nest over all coordinates of the
+/// loop with the looplets of its reads and masks is an entrance of the loop.
+pub fn entries_are_entrances()
+    ensures { EntriesAreEntrances }
+{
+    bounds_mean();
+}
+
+/// A machine that runs the codes of a loop's entry has the positions and the bounds in locals and has paid for the entry;
+/// it does what the run does, and a nest with the looplets of the loop's reads and masks is an entrance of the loop.
+pub fn entry_codes_enter()
+    ensures { EntryCodesEnter }
 {
     bounds_mean();
 }
