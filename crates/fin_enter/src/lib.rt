@@ -9,10 +9,12 @@
 //! a driven read's looplet asks of them and of these locals, and `specs/Entrances.antt` the nest behind them.
 #![tactic(auto)]
 
+mod driving;
 mod entry;
 mod laws;
 mod lengths;
 
+pub use driving::driven_index;
 pub use entry::push_charges;
 pub use laws::{
     all_bounds_mean, all_positions_are_found, bounds_are_free, bounds_mean, entrances_are_made,
