@@ -11,3 +11,4 @@ pub mod Entrances
 pub mod Masked
 pub mod Entering
 pub mod EntryCodes
+pub mod Masking

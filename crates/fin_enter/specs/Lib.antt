@@ -7,5 +7,6 @@ pub mod Indices
 pub mod Together
 pub mod Entrances
 pub mod Masked
+pub mod MaskCodes
 pub mod Entering
 pub mod EntryCodes

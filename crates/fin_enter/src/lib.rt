@@ -13,6 +13,7 @@ mod driving;
 mod entry;
 mod laws;
 mod lengths;
+mod masks;
 
 pub use driving::driven_index;
 pub use entry::push_charges;
@@ -23,3 +24,4 @@ pub use laws::{
     tensors_are_stored, tensors_have_formats,
 };
 pub use lengths::stored_length;
+pub use masks::{MaskTest, is_bound, mask_test, push_mask};
