@@ -79,7 +79,7 @@ pub record Site : Type 0 where
 abbrev pub extent_of : Entry → Access → ℕ × Index → ℕ
 extent_of e a d = slice_index_or (shape_at e.world.setting a.tensor) d.0 0
 
--- a tensor that the body declares, freezes or thaws isn't settled
+-- a tensor that the body declares, updates, freezes or thaws isn't settled
 abbrev pub reading_of : Entry → Access → ℕ × Index → ℕ → Reading
 reading_of e a d cursor = record {
   var = e.loop.loop.var;

@@ -13,7 +13,7 @@ pub struct Reading {
     /// The level of that index, and its extent.
     pub level: u8,
     pub extent: u64,
-    /// Whether the tensor stands before the body is run, which neither declares, freezes nor thaws it.
+    /// Whether the tensor stands before the body is run, which neither declares, updates, freezes nor thaws it.
     pub settled: bool,
     /// A local of the looplet's own; the one above it is so too.
     pub cursor: u32,

@@ -19,7 +19,7 @@ use Rattle.fin_drive.specs.Entries.{IsFound}
 use Rattle.fin_enter.specs.Positions.{position_steps, spot_in}
 use Rattle.fin_enter.specs.Indices.{AreAround, small_offsets}
 
--- a loop's variable, and the tensors that its body declares, freezes or thaws
+-- a loop's variable, and the tensors that its body declares, updates, freezes or thaws
 pub record Around : Type 0 where
   pub heads : Heads
   pub var : ℕ

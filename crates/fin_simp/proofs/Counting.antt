@@ -47,9 +47,9 @@ let_numbers : (o : Option ℤ) (b : Bool) (ex : ExprRest) (r : Rest) (first read
 let_numbers None b ex r first reads q e l f h = within_numbers b r.kind ex [] r first reads q f h
 let_numbers (Some n) b ex r first reads q e l f h = ap (λ (ns : List ℕ). if b then [] else ns ++ reads) (l n refl) ∙ unless_none b reads e ∙ h
 
-update_numbers : (at : List Index) (b : Bool) (ex : ExprRest) (first : List ℕ) → first ≡ numbers_of ex.reads → (if b || false then [] else first ++ []) ≡ numbers_of (updating_rest at b ex).reads
-update_numbers at true ex first f = refl
-update_numbers at false ex first f = append-nil first ∙ f
+update_numbers : (t : ℕ) (at : List Index) (b : Bool) (ex : ExprRest) (first : List ℕ) → first ≡ numbers_of ex.reads → (if b || false then [] else first ++ []) ≡ numbers_of (updating_rest t at b ex).reads
+update_numbers t at true ex first f = refl
+update_numbers t at false ex first f = append-nil first ∙ f
 
 -- ---- all kinds
 abbrev Counts : Stmt → Type 0
@@ -115,7 +115,7 @@ count_cases = record {
       let ex = expr_rest value h.read m in
       ap (reads_at m) (at_update (Marks → StmtReads) stmt_step tensor at by value line h)
       ∙ ap (λ (o : Option ℤ). (if is_identity_literal by o || false then [] else f.reads ++ [])) (literal_same value h.read m)
-      ∙ update_numbers at (is_identity_literal by ex.literal) ex f.reads (first_same value h.read m)
+      ∙ update_numbers tensor at (is_identity_literal by ex.literal) ex f.reads (first_same value h.read m)
       ∙ sym (ap (rest_at m) (at_update (Marks → Rest) rest_step tensor at by value line h));
 }
 

@@ -154,9 +154,9 @@ bound_mentions var line last (Literal n) ex r xs k h g = h ∙ opened_mentions l
 bound_mentions var line last (Open x) ex r xs k h g =
     within_mentions r.kind ex [] r (λ b. s.Bind var x b line last) (in_expr x) xs k h g (λ ys. node.of_bind (List Mention) in_stmt_step var x ys line last)
 
-update_mentions : (at : List Index) (ex : ExprRest) (b : Bool) (x : Stmt) → mentioned ex.reads ≡ in_stmt x → mentioned (updating_rest at b ex).reads ≡ in_body (if b then [] else x ∷ [])
-update_mentions at ex true x h = refl
-update_mentions at ex false x h = h ∙ sym (alone x)
+update_mentions : (t : ℕ) (at : List Index) (ex : ExprRest) (b : Bool) (x : Stmt) → mentioned ex.reads ≡ in_stmt x → mentioned (updating_rest t at b ex).reads ≡ in_body (if b then [] else x ∷ [])
+update_mentions t at ex true x h = refl
+update_mentions t at ex false x h = h ∙ sym (alone x)
 
 -- ---- all kinds
 abbrev Mentions : Stmt → Type 0
@@ -220,9 +220,9 @@ mention_cases = record {
       let ex = expr_rest value h.read m in
       let l = left_of value h.read m in
       ap (rest_at m) (at_update (Marks → Rest) rest_step tensor at by value line h)
-      ∙ ap (λ (o : Option ℤ). mentioned (updating_rest at (is_identity_literal by o) ex).reads) (rest_literal value h.read m ∙ literal_is value h.read m)
-      ∙ ap (λ b. mentioned (updating_rest at b ex).reads) (identity_is by l)
-      ∙ update_mentions at ex (is_identity by l) (s.Update tensor at by (as_expr l) line) (expr_mentions value h.read m ∙ sym (node.of_update (List Mention) in_stmt_step tensor at by (as_expr l) line))
+      ∙ ap (λ (o : Option ℤ). mentioned (updating_rest tensor at (is_identity_literal by o) ex).reads) (rest_literal value h.read m ∙ literal_is value h.read m)
+      ∙ ap (λ b. mentioned (updating_rest tensor at b ex).reads) (identity_is by l)
+      ∙ update_mentions tensor at ex (is_identity by l) (s.Update tensor at by (as_expr l) line) (expr_mentions value h.read m ∙ sym (node.of_update (List Mention) in_stmt_step tensor at by (as_expr l) line))
       ∙ sym (ap (left_at m) (at_update (Marks → List Stmt) simplified_step tensor at by value line h));
 }
 

@@ -94,9 +94,9 @@ module _ (p : Access → Bool) where
   let_all None ex r h g = within_all r.kind ex [] r h g
   let_all (Some n) ex r h g = g
 
-  update_all : (at : List Index) (b : Bool) (ex : ExprRest) → all ex.reads ≡ true → all (updating_rest at b ex).reads ≡ true
-  update_all at true ex h = refl
-  update_all at false ex h = h
+  update_all : (t : ℕ) (at : List Index) (b : Bool) (ex : ExprRest) → all ex.reads ≡ true → all (updating_rest t at b ex).reads ≡ true
+  update_all t at true ex h = refl
+  update_all t at false ex h = h
 
   -- ---- all kinds
   abbrev Stays : Stmt → Type 0
@@ -147,7 +147,7 @@ module _ (p : Access → Bool) where
     update = λ tensor at by value line h m q.
         let ex = expr_rest value h.read m in
         ap (stmt_at m) (at_update (Marks → Rest) rest_step tensor at by value line h)
-        ∙ update_all at (is_identity_literal by ex.literal) ex (expr_kept value h.read m (sym (ap written_at (at_update Rest written_step tensor at by value line h)) ∙ q));
+        ∙ update_all tensor at (is_identity_literal by ex.literal) ex (expr_kept value h.read m (sym (ap written_at (at_update Rest written_step tensor at by value line h)) ∙ q));
   }
 
   stmt_stays : (x : Stmt) → Stays x

@@ -127,9 +127,9 @@ bound_kind : (var line last : ℕ) (l : Left) (e : ExprRest) (r : Rest) (xs : Li
 bound_kind var line last (Literal n) e r xs h = h ∙ opened_kind line last xs
 bound_kind var line last (Open x) e r xs h = within_is r.kind e [] r ∙ ap above h ∙ around_kind (λ b. s.Bind var x b line last) xs (λ ys. node.of_bind Bool updates_step var x ys line last)
 
-update_kind : (at : List Index) (e : ExprRest) (b : Bool) (x : Stmt) → is_update x ≡ true → (updating_rest at b e).kind ≡ kind_of (if b then [] else x ∷ [])
-update_kind at e true x h = refl
-update_kind at e false x h = sym (ap one h)
+update_kind : (t : ℕ) (at : List Index) (e : ExprRest) (b : Bool) (x : Stmt) → is_update x ≡ true → (updating_rest t at b e).kind ≡ kind_of (if b then [] else x ∷ [])
+update_kind t at e true x h = refl
+update_kind t at e false x h = sym (ap one h)
 
 -- ---- all kinds
 abbrev KindIs : Stmt → Type 0
@@ -183,9 +183,9 @@ kind_cases = record {
       let e = expr_rest value h.read m in
       let l = left_of value h.read m in
       ap (kind_at m) (at_update (Marks → Rest) rest_step tensor at by value line h)
-      ∙ ap (λ (o : Option ℤ). (updating_rest at (is_identity_literal by o) e).kind) (rest_literal value h.read m ∙ literal_is value h.read m)
-      ∙ ap (λ b. (updating_rest at b e).kind) (identity_is by l)
-      ∙ update_kind at e (is_identity by l) (s.Update tensor at by (as_expr l) line) (node.of_update Bool updates_step tensor at by (as_expr l) line)
+      ∙ ap (λ (o : Option ℤ). (updating_rest tensor at (is_identity_literal by o) e).kind) (rest_literal value h.read m ∙ literal_is value h.read m)
+      ∙ ap (λ b. (updating_rest tensor at b e).kind) (identity_is by l)
+      ∙ update_kind tensor at e (is_identity by l) (s.Update tensor at by (as_expr l) line) (node.of_update Bool updates_step tensor at by (as_expr l) line)
       ∙ sym (ap (left_at m) (at_update (Marks → List Stmt) simplified_step tensor at by value line h));
 }
 

@@ -68,7 +68,7 @@ pub record Driven : Type 0 where
 abbrev pub is_in : List ℕ → ℕ → Bool
 is_in xs x = list_any (nat_eq x) xs
 
--- a tensor that the body declares, freezes or thaws doesn't stand before the body is run
+-- a tensor that the body declares, updates, freezes or thaws doesn't stand before the body is run
 abbrev pub stand_of : World → Numbers → Run → List ℕ → Access → ℕ → Stand
 stand_of w vars r changed a k =
     if is_in changed a.tensor then Unsettled else stand_at vars (shape_at w.setting a.tensor) (parts_at w r a.tensor) a.at k (Some 0)

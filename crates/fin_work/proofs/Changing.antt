@@ -2,6 +2,7 @@
 use Rattle.std.proofs.Common.{◌≡◌, ℕ, ℤ, pos, Bool, true, false, ◌||◌, List, [], ◌∷◌, ◌++◌, map, Option, Some, None, refl, sym, ap, ◌∙◌, subst, if◌then◌else◌}
 use Rattle.std.specs.Prelude.{nat_eq}
 use Rattle.std.specs.Ordering.{int_eq}
+use Rattle.fin_base.specs.declared.reduce.Reduce.{Reduce}
 use Rattle.fin_ast.specs.declared.tree.Index.{Index}
 use Rattle.fin_ast.specs.declared.tree.Expr.{Expr}
 use Rattle.fin_ast.specs.declared.tree.Stmt.{Stmt}
@@ -54,9 +55,9 @@ quiet_let : (o : Option ℤ) (e : ExprRest) (r : Rest) → Quiet r → Quiet (le
 quiet_let None e r p = quiet_within r.kind e [] r
 quiet_let (Some n) e r p = p
 
-quiet_update : (at : List Index) (b : Bool) (e : ExprRest) → Quiet (updating_rest at b e)
-quiet_update at true e h = refl
-quiet_update at false e h = cc
+quiet_update : (t : ℕ) (at : List Index) (b : Bool) (e : ExprRest) → Quiet (updating_rest t at b e)
+quiet_update t at true e h = refl
+quiet_update t at false e h = cc
 
 abbrev IsQuiet : Stmt → Type 0
 IsQuiet x = (h : Here) (m : Marks) → Quiet (rest_of x h m)
@@ -82,7 +83,7 @@ quiet_cases = record {
   declare = λ tensor value line h m. quiet_by _ _ (ap (at_rest m) (at_declare (Marks → Rest) rest_step tensor value line h)) (λ e. cc);
   freeze = λ tensor line h m. quiet_by _ _ (ap (at_rest m) (at_freeze (Marks → Rest) rest_step tensor line h)) (λ e. cc);
   thaw = λ tensor line h m. quiet_by _ _ (ap (at_rest m) (at_thaw (Marks → Rest) rest_step tensor line h)) (λ e. cc);
-  update = λ tensor at by value line h m. quiet_by _ _ (ap (at_rest m) (at_update (Marks → Rest) rest_step tensor at by value line h)) (quiet_update at (is_identity_literal by (expr_rest value h.read m).literal) (expr_rest value h.read m));
+  update = λ tensor at by value line h m. quiet_by _ _ (ap (at_rest m) (at_update (Marks → Rest) rest_step tensor at by value line h)) (quiet_update tensor at (is_identity_literal by (expr_rest value h.read m).literal) (expr_rest value h.read m));
 }
 
 pub quiet : (body : List Stmt) (h : Here) (m : Marks) → Quiet (rests body h m)
@@ -140,9 +141,25 @@ module _ (t : ℕ) where
   free_let None e r f = free_within r.kind e [] r f
   free_let (Some n) e r f = f
 
-  pub free_update : (at : List Index) (b : Bool) (e : ExprRest) → Free (updating_rest at b e)
-  free_update at true e = refl
-  free_update at false e = refl
+  free_update : (u : ℕ) (at : List Index) (b b' : Bool) (e e' : ExprRest) → (b ≡ true → b' ≡ true) → Free (updating_rest u at b e) → Free (updating_rest u at b' e')
+  free_update u at true b' e e' i f = ap (λ (x : Bool). is_in (updating_rest u at x e').changed t) (i refl)
+  free_update u at false true e e' i f = refl
+  free_update u at false false e e' i f = f
+
+  -- what is written of an update that is left
+  pub written_update : (u : ℕ) (at : List Index) (b : Bool) (e : ExprRest) → is_in (u ∷ []) t ≡ false → Free (updating_rest u at b e)
+  written_update u at true e f = refl
+  written_update u at false e f = f
+
+  identity_stays : (by : Reduce) (a a' : Option ℤ) → StaysIn a a' → is_identity_literal by a ≡ true → is_identity_literal by a' ≡ true
+  identity_stays by None a' p h = cc
+  identity_stays by (Some n) a' p h = ap (is_identity_literal by) p ∙ h
+
+  identity_kept : (by : Reduce) (value : Expr) → is_worded value ≡ true → (k : ℕ) (m m' : Marks) → KnowsWords m' → Further m m'
+      → is_identity_literal by (expr_rest value k m).literal ≡ true → is_identity_literal by (expr_rest value k m').literal ≡ true
+  identity_kept by value q k m m' w f e =
+      ap (is_identity_literal by) (rest_literal value k m')
+      ∙ identity_stays by (literal_of value k m) (literal_of value k m') (literal_stays value q k m m' w f) (sym (ap (is_identity_literal by) (rest_literal value k m)) ∙ e)
 
   -- from what is left of a body to what is left of it where more is known
   module _ (r r' : Rest) (none : is_none_kind r.kind ≡ true → is_none_kind r'.kind ≡ true) (free : Free r → Free r') (quiet' : Quiet r') where
@@ -242,8 +259,11 @@ module _ (t : ℕ) where
     freeze = λ tensor line q h m m' w f. free_by _ _ _ _ (ap (at_rest m) (at_freeze (Marks → Rest) rest_step tensor line h)) (ap (at_rest m') (at_freeze (Marks → Rest) rest_step tensor line h)) (λ k. k);
     thaw = λ tensor line q h m m' w f. free_by _ _ _ _ (ap (at_rest m) (at_thaw (Marks → Rest) rest_step tensor line h)) (ap (at_rest m') (at_thaw (Marks → Rest) rest_step tensor line h)) (λ k. k);
     update = λ tensor at by value line q h m m' w f.
+        let e = expr_rest value h.read m in
         let e' = expr_rest value h.read m' in
-        free_by _ _ _ _ (ap (at_rest m) (at_update (Marks → Rest) rest_step tensor at by value line h)) (ap (at_rest m') (at_update (Marks → Rest) rest_step tensor at by value line h)) (λ k. free_update at (is_identity_literal by e'.literal) e');
+        let worded = sym (node.of_update Bool worded_stmt_step tensor at by value line) ∙ q in
+        free_by _ _ _ _ (ap (at_rest m) (at_update (Marks → Rest) rest_step tensor at by value line h)) (ap (at_rest m') (at_update (Marks → Rest) rest_step tensor at by value line h))
+        (free_update tensor at (is_identity_literal by e.literal) (is_identity_literal by e'.literal) e e' (identity_kept by value worded h.read m m' w f));
   }
 
   pub fewer_changed : (body : List Stmt) → all_hold (map is_worded_stmt body) ≡ true → (h : Here) (m m' : Marks) → KnowsWords m' → Further m m' → Free (rests body h m) → Free (rests body h m')

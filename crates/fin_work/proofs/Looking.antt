@@ -121,9 +121,9 @@ module _ (P : Test → Type 0) where
   tests_let None ex r g = tests_within r.kind ex [] r tt g
   tests_let (Some n) ex r g = g
 
-  tests_update : (at : List Index) (b : Bool) (ex : ExprRest) → AllTests P (updating_rest at b ex).tests
-  tests_update at true ex = tt
-  tests_update at false ex = tt
+  tests_update : (t : ℕ) (at : List Index) (b : Bool) (ex : ExprRest) → AllTests P (updating_rest t at b ex).tests
+  tests_update t at true ex = tt
+  tests_update t at false ex = tt
 
   abbrev Remain : Stmt → Type 0
   Remain x = (h : Here) (m : Marks) → AllLooks Seen (looks_of x h m) → AllTests P (rest_of x h m).tests
@@ -164,7 +164,7 @@ module _ (P : Test → Type 0) where
     thaw = λ tensor line h m q. to _ _ (ap (tests_at m) (at_thaw (Marks → Rest) rest_step tensor line h)) tt;
     update = λ tensor at by value line h m q.
         let ex = expr_rest value h.read m in
-        to _ _ (ap (tests_at m) (at_update (Marks → Rest) rest_step tensor at by value line h)) (tests_update at (is_identity_literal by ex.literal) ex);
+        to _ _ (ap (tests_at m) (at_update (Marks → Rest) rest_step tensor at by value line h)) (tests_update tensor at (is_identity_literal by ex.literal) ex);
   }
 
   pub remaining_tests : (body : List Stmt) (h : Here) (m : Marks) → AllLooks Seen (looks body h m) → AllTests P (rests body h m).tests

@@ -191,9 +191,9 @@ module _ (P : Access → Type 0) where
   let_all None ex r h g = within_all r.kind ex [] r h g
   let_all (Some n) ex r h g = g
 
-  update_all : (at : List Index) (b : Bool) (ex : ExprRest) → all ex.reads → all (updating_rest at b ex).reads
-  update_all at true ex h = tt
-  update_all at false ex h = h
+  update_all : (t : ℕ) (at : List Index) (b : Bool) (ex : ExprRest) → all ex.reads → all (updating_rest t at b ex).reads
+  update_all t at true ex h = tt
+  update_all t at false ex h = h
 
   abbrev Stays : Stmt → Type 0
   Stays x = (h : Here) (m : Marks) → all (written x h).reads → all (rest_of x h m).reads
@@ -237,7 +237,7 @@ module _ (P : Access → Type 0) where
     thaw = λ tensor line h m q. to _ _ (ap (stmt_at m) (at_thaw (Marks → Rest) rest_step tensor line h)) tt;
     update = λ tensor at by value line h m q.
         let ex = expr_rest value h.read m in
-        to _ _ (ap (stmt_at m) (at_update (Marks → Rest) rest_step tensor at by value line h)) (update_all at (is_identity_literal by ex.literal) ex (expr_kept value h.read m (forth _ _ (ap reads_in (at_update Rest written_step tensor at by value line h)) q)));
+        to _ _ (ap (stmt_at m) (at_update (Marks → Rest) rest_step tensor at by value line h)) (update_all tensor at (is_identity_literal by ex.literal) ex (expr_kept value h.read m (forth _ _ (ap reads_in (at_update Rest written_step tensor at by value line h)) q)));
   }
 
   pub remaining_reads : (body : List Stmt) (h : Here) (m : Marks) → all (texts body h).reads → all (rests body h m).reads

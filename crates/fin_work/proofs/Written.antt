@@ -9,7 +9,7 @@ use Rattle.fin_simp.specs.Rest.{Test, Rest, no_expr, test_rest, expr_rest, rest_
 use Rattle.fin_simp.specs.Work.{is_in}
 use Rattle.fin_simp.proofs.Equations.{at_block, at_loop, at_cond, at_bind, at_declare, at_freeze, at_thaw, at_update}
 use Rattle.fin_simp.proofs.Mentions.{rests}
-use Rattle.fin_work.proofs.Changing.{free_append, free_within, free_chosen, free_let, free_update}
+use Rattle.fin_work.proofs.Changing.{free_append, free_within, free_chosen, free_let, written_update}
 use Rattle.fin_work.proofs.Looking.{Look, looks_of, looks, AllLooks, looks_first, looks_second, looks_block, looks_loop, looks_cond, looks_bind, AllTests, tests_both}
 use Rattle.fin_work.proofs.Numbering.{texts}
 
@@ -56,7 +56,7 @@ module _ (t : ℕ) where
     freeze = λ u line h m. covers_by _ _ _ _ (at_freeze Rest written_step u line h) (ap (at_rest m) (at_freeze (Marks → Rest) rest_step u line h)) (λ f. f);
     thaw = λ u line h m. covers_by _ _ _ _ (at_thaw Rest written_step u line h) (ap (at_rest m) (at_thaw (Marks → Rest) rest_step u line h)) (λ f. f);
     update = λ u at by value line h m. covers_by _ _ _ _ (at_update Rest written_step u at by value line h) (ap (at_rest m) (at_update (Marks → Rest) rest_step u at by value line h))
-        (λ f. free_update t at (is_identity_literal by (expr_rest value h.read m).literal) (expr_rest value h.read m));
+        (written_update t u at (is_identity_literal by (expr_rest value h.read m).literal) (expr_rest value h.read m));
   }
 
   pub written_covers : (body : List Stmt) (h : Here) (m : Marks) → Free (texts body h) → Free (rests body h m)

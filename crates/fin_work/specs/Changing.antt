@@ -1,4 +1,4 @@
--- What is left of a body declares, freezes or thaws the fewer tensors, the more is known.
+-- What is left of a body changes the fewer tensors, the more is known.
 use Rattle.std.specs.Prelude.{◌≡◌, ℕ, true, false, List, map}
 use Rattle.fin_ast.specs.declared.tree.Stmt.{Stmt}
 use Rattle.fin_ast.specs.Literals.{all_hold, is_worded_stmt}
@@ -8,7 +8,7 @@ use Rattle.fin_simp.specs.Rest.{Rest, all_rest, rest_step}
 use Rattle.fin_simp.specs.Wording.{KnowsWords, Further}
 use Rattle.fin_simp.specs.Work.{is_in}
 
--- the tensors that what is left of a body declares, freezes or thaws
+-- the tensors that what is left of a body declares, updates, freezes or thaws
 abbrev pub changed_by : List Stmt → Here → Marks → List ℕ
 changed_by body h m = (all_rest (numbered_all (Marks → Rest) rest_step body h) m).changed
 
