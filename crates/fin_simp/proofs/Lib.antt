@@ -17,6 +17,8 @@ pub mod Resting
 mod Single
 mod Rewriting
 mod Reading
+mod Gathering
+mod GatheredKinds
 mod Lasting
 mod Costing
 mod Staging
