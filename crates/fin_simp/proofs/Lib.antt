@@ -19,6 +19,7 @@ mod Rewriting
 mod Reading
 mod Gathering
 mod GatheredKinds
+mod Writing
 mod Lasting
 mod Costing
 mod Staging

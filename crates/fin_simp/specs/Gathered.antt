@@ -115,3 +115,21 @@ chosen_rest None e test body = within e (test ∷ []) body
 abbrev pub let_rest : Option ℤ → ExprRest → Rest → Rest
 let_rest (Some n) e body = body
 let_rest None e body = within e [] body
+
+-- ---- statements as they are written
+
+abbrev pub test_with : ℕ → Expr → Test
+test_with number e = record { test = number; expr = e }
+
+abbrev pub written_with : List Access → List Test → List ℕ → Rest
+written_with reads tests changed = record { kind = Other; reads = reads; vars = []; tests = tests; changed = changed; targets = [] }
+
+abbrev pub written_of_all : List Stmt → Here → told.Rest
+written_of_all body h = told.all_written (numbered_all told.Rest told.written_step body h)
+
+-- an `if` and a `let` around a body
+abbrev pub cond_written : Expr → List Stmt → Here → told.Rest
+cond_written test body h = told.beside (told.written_with (told.reads_of test h.read) (record { test = h.test; expr = test } ∷ []) []) (written_of_all body (behind_test test h))
+
+abbrev pub bind_written : Expr → List Stmt → Here → told.Rest
+bind_written value body h = told.beside (told.written_with (told.reads_of value h.read) [] []) (written_of_all body (behind value h))

@@ -5,6 +5,7 @@
 //! each read that is known has its value, and each test that is known holds or fails as it is said, a body and what is
 //! left of it make the same by dense evaluation; a body of which nothing is left makes nothing; and nothing is left of
 //! it where more is known. Over the run by stages that holds where each statement is asked for what it can do.
+//! `written_of_all` gathers the same of statements as they are written, where nothing is known.
 //!
 //! `specs/Work.antt` defines the work beside the run by stages: a piece's cost is shared out to its coordinates.
 //! Where no piece ends after a coordinate, the same is known at the next one, so that the shares of a piece's
@@ -20,6 +21,7 @@ mod remainder;
 mod rest;
 mod rewrite;
 mod spine;
+mod written;
 
 pub use expr_rest::{Access, ExprRest, ExprRestWalk, rest_of_expr};
 pub use facts::{Bound, Facts, Gap, Known};
@@ -35,3 +37,4 @@ pub use remainder::{Left, Remainder, simplify_expr};
 pub use rest::{Kind, Rest, RestWalk, Test, rest_of, rest_of_all};
 pub use rewrite::{Rewritten, simplify, simplify_all, simplify_stmt};
 pub use spine::{Found, literal};
+pub use written::written_of_all;

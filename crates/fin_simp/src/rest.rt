@@ -293,7 +293,7 @@ pub(crate) fn beside(a: Rest, b: Rest) -> Result<Rest, AllocError>
     })
 }
 
-fn changing(alloc: Global, tensor: u8) -> Result<Rest, AllocError>
+pub(crate) fn changing(alloc: Global, tensor: u8) -> Result<Rest, AllocError>
     ensures { IfOk result (λ r. r ≡ spec.changing tensor) }
 {
     Ok(Rest {
