@@ -1,6 +1,7 @@
 pub mod Beginning
 pub mod Behind
 pub mod Bodies
+pub mod Changed
 pub mod Composing
 pub mod Evaluating
 pub mod Fronts

@@ -1,5 +1,5 @@
 -- The code of a whole program leads from the first machine to one that does what the run by pieces does.
-use Rattle.std.proofs.Common.{◌≡◌, ℕ, ◌+◌, ◌<◌, ◌≤◌, true, false, List, [], ◌∷◌, length, refl, ap, inl, pos, arith}
+use Rattle.std.proofs.Common.{◌≡◌, ℕ, ◌+◌, ◌<◌, ◌≤◌, true, false, List, [], ◌∷◌, None, length, refl, ap, inl, pos, arith}
 use Rattle.std.specs.Prelude.{◌==◌}
 use Rattle.std.proofs.lemmas.Bool.{eqb-true}
 use Rattle.std.proofs.lemmas.List.{length-map}
@@ -19,7 +19,8 @@ use Rattle.fin_nest.specs.Senses.{runs}
 use Rattle.fin_nest.specs.Performs.{Place, Ready}
 use Rattle.fin_nest.proofs.Pinning.{live_less}
 use Rattle.fin_perform.specs.Layouts.{variables_in, layout_with, begun_with, start_with}
-use Rattle.fin_perform.specs.Places.{AllApart, AllMayBind, Suits, write_all}
+use Rattle.fin_simp.specs.Numbered.{outset}
+use Rattle.fin_perform.specs.Places.{AllApart, AllMayBind, Suits, change_all}
 use Rattle.fin_perform.specs.Programs.{ProgramsStand}
 use Rattle.fin_perform.proofs.Beginning.{begins}
 
@@ -47,7 +48,7 @@ module _ (c : Checked) (accepted : IsAccepted c) where
       let e : c.dims.ranges ≡ ranges_of accepted.extents.extent (places_in c.program) = ap (λ (d : Dims). d.ranges) accepted.extents.numbers in
       omega (arith, ap length e, ranges_count accepted.extents.extent c.program.body)
 
-  whole_suits : Suits c (variables_in c) (bindings_of_all c.program.body) (write_all c.program.body) (outermost c.program.headers) (unbound c.dims) (whole_place c)
+  whole_suits : Suits c (variables_in c) (bindings_of_all c.program.body) (change_all c.program.body outset None) (outermost c.program.headers) (unbound c.dims) (whole_place c)
   whole_suits = record {
     stands = record {
       headers = refl;

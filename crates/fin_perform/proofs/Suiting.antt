@@ -1,16 +1,21 @@
 -- Places that suit a statement suit its parts.
-use Rattle.std.proofs.Common.{◌≡◌, ◌≢◌, ℕ, Bool, true, false, ◌&&◌, List, [], ◌∷◌, ◌++◌, append_assoc, length, length-set, refl, sym, ap, ◌∙◌, subst, ℤ, arith}
-use Rattle.std.specs.Prelude.{◌||◌, not, nat_eq, slice_set}
-use Rattle.std.proofs.lemmas.Bool.{or_right}
+use Rattle.std.proofs.Common.{◌≡◌, ◌≢◌, ℕ, Bool, true, false, ◌&&◌, List, [], ◌∷◌, ◌++◌, map, Some, None, append_assoc, length, length-set, refl, sym, ap, ◌∙◌, subst, ℤ, arith}
+use Rattle.std.specs.Prelude.{not, nat_eq, slice_set}
+use Rattle.std.proofs.lemmas.Bool.{or_left, or_right}
 use Rattle.std.proofs.lemmas.Bool.Decides.{nat_tests}
+use Rattle.std.proofs.lemmas.List.Folds.{list_any-append}
 use Rattle.fin_ast.specs.declared.checked.Checked.{Checked}
 use Rattle.fin_ast.specs.declared.tree.Stmt.{Stmt}
 use Rattle.fin_ast.specs.Bindings.{bindings_of, bindings_of_all}
 use Rattle.fin_ast.specs.Scope.{Scope, within_let}
 use Rattle.fin_ast.specs.Value.{Numbers}
 use Rattle.fin_nest.specs.Performs.{Place}
+use Rattle.fin_simp.specs.Left.{Marks}
+use Rattle.fin_simp.specs.Numbered.{Here, past_stmt, past_all}
+use Rattle.fin_simp.specs.Rest.{Rest, rest_of, written}
+use Rattle.fin_simp.specs.Work.{Context, is_in}
 use Rattle.fin_perform.specs.Inside.{place_inside, InsideStands}
-use Rattle.fin_perform.specs.Places.{Suits, writes, write_all, AllApart, AllMayBind}
+use Rattle.fin_perform.specs.Places.{Suits, left_of_all, change_all, AllApart, AllMayBind}
 use Rattle.fin_perform.proofs.Standing.{places_inside}
 
 -- ---- lists of variables
@@ -31,18 +36,28 @@ pub bindings_join : (xs ys : List Stmt) → bindings_of_all (xs ++ ys) ≡ bindi
 bindings_join [] ys = refl
 bindings_join (x ∷ xs) ys = ap (λ (bs : List ℕ). bindings_of x ++ bs) (bindings_join xs ys) ∙ sym (append_assoc (bindings_of x) (bindings_of_all xs) (bindings_of_all ys))
 
--- ---- written tensors
+-- ---- tensors that are changed: by statements one after another, those that any of them changes
 
-pub write_left : (xs ys : List Stmt) (t : ℕ) → write_all xs t ≡ true → write_all (xs ++ ys) t ≡ true
-write_left [] ys t e = cc
-write_left (x ∷ xs) ys t e = elim (writes x t) as (λ b. (b || write_all xs t) ≡ true → (b || write_all (xs ++ ys) t) ≡ true) [
-  | true ↦ (λ h. refl)
-  | false ↦ (λ h. write_left xs ys t h)
-] e
+-- a rest beside those behind it
+beside_all : (cs : List ℕ) (a b : List ℕ) → cs ++ (a ++ b) ≡ (cs ++ a) ++ b
+beside_all cs a b = sym (append_assoc cs a b)
 
-pub write_right : (xs ys : List Stmt) (t : ℕ) → write_all ys t ≡ true → write_all (xs ++ ys) t ≡ true
-write_right [] ys t e = e
-write_right (x ∷ xs) ys t e = or_right (writes x t) (write_all (xs ++ ys) t) (write_right xs ys t e)
+changed_join : (xs ys : List Stmt) (h : Here) (ctx : Context)
+    → (left_of_all (xs ++ ys) h ctx).changed ≡ (left_of_all xs h ctx).changed ++ (left_of_all ys (past_all (map past_stmt xs) h) ctx).changed
+changed_join [] ys h None = refl
+changed_join [] ys h (Some m) = refl
+changed_join (x ∷ xs) ys h None =
+    ap (λ (cs : List ℕ). (written x h).changed ++ cs) (changed_join xs ys (past_stmt x h) None)
+    ∙ beside_all (written x h).changed (left_of_all xs (past_stmt x h) None).changed (left_of_all ys (past_all (map past_stmt xs) (past_stmt x h)) None).changed
+changed_join (x ∷ xs) ys h (Some m) =
+    ap (λ (cs : List ℕ). (rest_of x h m).changed ++ cs) (changed_join xs ys (past_stmt x h) (Some m))
+    ∙ beside_all (rest_of x h m).changed (left_of_all xs (past_stmt x h) (Some m)).changed (left_of_all ys (past_all (map past_stmt xs) (past_stmt x h)) (Some m)).changed
+
+in_left : (ys zs : List ℕ) (t : ℕ) → is_in ys t ≡ true → is_in (ys ++ zs) t ≡ true
+in_left ys zs t e = list_any-append (nat_eq t) ys zs ∙ or_left (is_in ys t) (is_in zs t) e
+
+in_right : (ys zs : List ℕ) (t : ℕ) → is_in zs t ≡ true → is_in (ys ++ zs) t ≡ true
+in_right ys zs t e = list_any-append (nat_eq t) ys zs ∙ or_right (is_in ys t) (is_in zs t) e
 
 -- ---- places
 
@@ -55,21 +70,38 @@ module _ (c : Checked) (next : ℕ) (sc : Scope) (vars : Numbers) (p : Place) wh
     may_bind = subst (AllMayBind p (length vars)) e u.may_bind;
   }
 
-  pub suits_left : (xs ys : List Stmt) → Suits c next (bindings_of_all (xs ++ ys)) (write_all (xs ++ ys)) sc vars p → Suits c next (bindings_of_all xs) (write_all xs) sc vars p
-  suits_left xs ys u = record {
-    stands = u.stands;
-    next_is = u.next_is;
-    loose = λ t h. u.loose t (write_left xs ys t h);
-    may_bind = bind_left p (length vars) (bindings_of_all xs) (bindings_of_all ys) (subst (AllMayBind p (length vars)) (bindings_join xs ys) u.may_bind);
-  }
+  module _ (xs ys : List Stmt) (h : Here) (ctx : Context) where
+    abbrev rest : Here
+    rest = past_all (map past_stmt xs) h
 
-  pub suits_right : (xs ys : List Stmt) → Suits c next (bindings_of_all (xs ++ ys)) (write_all (xs ++ ys)) sc vars p → Suits c next (bindings_of_all ys) (write_all ys) sc vars p
-  suits_right xs ys u = record {
-    stands = u.stands;
-    next_is = u.next_is;
-    loose = λ t h. u.loose t (write_right xs ys t h);
-    may_bind = bind_right p (length vars) (bindings_of_all xs) (bindings_of_all ys) (subst (AllMayBind p (length vars)) (bindings_join xs ys) u.may_bind);
-  }
+    abbrev Both : Type 0
+    Both = Suits c next (bindings_of_all (xs ++ ys)) (change_all (xs ++ ys) h ctx) sc vars p
+
+    changed_left : (t : ℕ) → change_all xs h ctx t ≡ true → change_all (xs ++ ys) h ctx t ≡ true
+    changed_left t e =
+        ap (λ (cs : List ℕ). is_in cs t) (changed_join xs ys h ctx)
+        ∙ in_left (left_of_all xs h ctx).changed (left_of_all ys rest ctx).changed t e
+
+    changed_right : (t : ℕ) → change_all ys rest ctx t ≡ true → change_all (xs ++ ys) h ctx t ≡ true
+    changed_right t e =
+        ap (λ (cs : List ℕ). is_in cs t) (changed_join xs ys h ctx)
+        ∙ in_right (left_of_all xs h ctx).changed (left_of_all ys rest ctx).changed t e
+
+    pub suits_left : Both → Suits c next (bindings_of_all xs) (change_all xs h ctx) sc vars p
+    suits_left u = record {
+      stands = u.stands;
+      next_is = u.next_is;
+      loose = λ t e. u.loose t (changed_left t e);
+      may_bind = bind_left p (length vars) (bindings_of_all xs) (bindings_of_all ys) (subst (AllMayBind p (length vars)) (bindings_join xs ys) u.may_bind);
+    }
+
+    pub suits_right : Both → Suits c next (bindings_of_all ys) (change_all ys rest ctx) sc vars p
+    suits_right u = record {
+      stands = u.stands;
+      next_is = u.next_is;
+      loose = λ t e. u.loose t (changed_right t e);
+      may_bind = bind_right p (length vars) (bindings_of_all xs) (bindings_of_all ys) (subst (AllMayBind p (length vars)) (bindings_join xs ys) u.may_bind);
+    }
 
   -- ---- inside a let
 

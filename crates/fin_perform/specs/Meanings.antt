@@ -21,11 +21,11 @@ use Rattle.fin_simp.specs.Work.{World, Context, world_of, inside}
 use Rattle.fin_perform.specs.Codes.{declare_code, freeze_code, thaw_code, update_code, cond_code, literal_code, let_code, end_of}
 use Rattle.fin_perform.specs.Layouts.{heads_in}
 use Rattle.fin_perform.specs.Performing.{Does}
-use Rattle.fin_perform.specs.Places.{Suits, writes, write_all}
+use Rattle.fin_perform.specs.Places.{Suits, changes, change_all}
 use Rattle.fin_perform.specs.Working.{run_of, turns_of, body_of, nothing_in, literal_at, test_at}
 
--- what codes are for: the variables that are bound, the tensors that are written, in which scope the names are good, and
--- what is done to a run
+-- what codes are for: the variables that are bound, the tensors that are changed by what is left, in which scope the names
+-- are good, and what is done to a run
 pub record Deed : Type 0 where
   pub bound : List ℕ
   pub written : ℕ → Bool
@@ -40,15 +40,15 @@ Means c next need cs d = (room : ℕ) (inputs : List Storage) (sc : Scope) (vars
 
 -- a statement in a context, whose first read and test have these numbers
 abbrev pub stmt_deed : Stmt → Here → Context → Deed
-stmt_deed x h ctx = record { bound = bindings_of x; written = writes x; named = is_named x; does = λ w. run_of w x h ctx }
+stmt_deed x h ctx = record { bound = bindings_of x; written = changes x h ctx; named = is_named x; does = λ w. run_of w x h ctx }
 
 -- statements one after another
 abbrev pub turns_deed : List Stmt → Here → Context → Deed
-turns_deed xs h ctx = record { bound = bindings_of_all xs; written = write_all xs; named = are_named xs; does = λ w. turns_of w xs h ctx }
+turns_deed xs h ctx = record { bound = bindings_of_all xs; written = change_all xs h ctx; named = are_named xs; does = λ w. turns_of w xs h ctx }
 
 -- and as a body
 abbrev pub body_deed : List Stmt → Here → Context → Deed
-body_deed xs h ctx = record { bound = bindings_of_all xs; written = write_all xs; named = are_named xs; does = λ w. body_of w xs h ctx }
+body_deed xs h ctx = record { bound = bindings_of_all xs; written = change_all xs h ctx; named = are_named xs; does = λ w. body_of w xs h ctx }
 
 -- ---- what the codes of the parts mean, those of the whole mean
 

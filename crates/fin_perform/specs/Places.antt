@@ -1,34 +1,32 @@
 -- Places that suit a statement: where its code may stand.
-use Rattle.std.specs.Prelude.{◌≡◌, ◌≢◌, ℕ, ◌<◌, Bool, true, false, ◌||◌, nat_eq, List, [], ◌∷◌, map, length}
+use Rattle.std.specs.Prelude.{◌≡◌, ◌≢◌, ℕ, ◌<◌, Bool, true, false, List, [], ◌∷◌, length, Some, None}
 use Rattle.fin_ast.specs.declared.checked.Checked.{Checked}
-use Rattle.fin_ast.specs.declared.tree.Stmt.{Stmt, fold-Stmt}
-use Rattle.fin_ast.specs.declared.tree.Stmt.TheOpen.{Stmt-F}
+use Rattle.fin_ast.specs.declared.tree.Stmt.{Stmt}
 use Rattle.fin_ast.specs.Scope.{Scope}
 use Rattle.fin_ast.specs.Value.{Numbers}
 use Rattle.fin_nest.specs.Performs.{Place}
+use Rattle.fin_simp.specs.Left.{Marks}
+use Rattle.fin_simp.specs.Numbered.{Here, numbered_all}
+use Rattle.fin_simp.specs.Rest.{Rest, rest_step, rest_of, all_rest, written_step, written, all_written}
+use Rattle.fin_simp.specs.Work.{Context, is_in}
 use Rattle.fin_perform.specs.Standing.{StandsIn}
 
--- ---- the tensors that statements declare, freeze, thaw or update
+-- ---- what is left of statements where their code is made, and the tensors that it declares, updates, freezes or thaws
 
-abbrev pub any_of : List (ℕ → Bool) → ℕ → Bool
-any_of [] t = false
-any_of (w ∷ ws) t = w t || any_of ws t
+abbrev pub left_of : Stmt → Here → Context → Rest
+left_of x h None = written x h
+left_of x h (Some m) = rest_of x h m
 
-abbrev pub writes_step : Stmt-F (ℕ → Bool) → ℕ → Bool
-writes_step (Stmt-F.Block body line last) t = any_of body t
-writes_step (Stmt-F.Loop var range par body line last) t = any_of body t
-writes_step (Stmt-F.Cond test body line last) t = any_of body t
-writes_step (Stmt-F.Bind var value body line last) t = any_of body t
-writes_step (Stmt-F.Declare tensor value line) t = nat_eq t tensor
-writes_step (Stmt-F.Freeze tensor line) t = nat_eq t tensor
-writes_step (Stmt-F.Thaw tensor line) t = nat_eq t tensor
-writes_step (Stmt-F.Update tensor at by value line) t = nat_eq t tensor
+-- one after another
+abbrev pub left_of_all : List Stmt → Here → Context → Rest
+left_of_all xs h None = all_written (numbered_all Rest written_step xs h)
+left_of_all xs h (Some m) = all_rest (numbered_all (Marks → Rest) rest_step xs h) m
 
-abbrev pub writes : Stmt → ℕ → Bool
-writes = fold-Stmt (ℕ → Bool) writes_step
+abbrev pub changes : Stmt → Here → Context → ℕ → Bool
+changes x h ctx = is_in (left_of x h ctx).changed
 
-abbrev pub write_all : List Stmt → ℕ → Bool
-write_all xs = any_of (map writes xs)
+abbrev pub change_all : List Stmt → Here → Context → ℕ → Bool
+change_all xs h ctx = is_in (left_of_all xs h ctx).changed
 
 -- ---- the variables that they bind
 
@@ -49,7 +47,7 @@ AllMayBind p count (v ∷ vs) = MayBind p count v vs × AllMayBind p count vs
 
 -- ---- places
 
--- The place is in the scope, with these numbers and this first free local. It takes none of the written tensors for one
+-- The place is in the scope, with these numbers and this first free local. It takes none of the changed tensors for one
 -- that stays as it is, and none of the bound variables for one that the code doesn't bind.
 pub record Suits (c : Checked) (next : ℕ) (bound : List ℕ) (written : ℕ → Bool) (sc : Scope) (vars : Numbers) (p : Place) : Type 0 where
   pub stands : StandsIn c sc vars p
