@@ -17,3 +17,4 @@ mod Holding
 mod Stepping
 mod Turning
 mod Soundness
+mod Modes
