@@ -13,6 +13,5 @@ pub mod Loops
 pub mod Inside
 pub mod Made
 pub mod Separation
-pub mod Holding
 pub mod Programs
 pub mod Shown

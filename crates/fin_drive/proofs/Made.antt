@@ -12,7 +12,7 @@ use Rattle.fin_tensor.specs.Levels.{IsStored, IsLevel, positions, fibres, child_
 use Rattle.fin_tensor.proofs.Walk.{child_within}
 use Rattle.fin_ast.specs.declared.tree.Index.{Index}
 use Rattle.fin_ast.specs.Value.{Numbers, place}
-use Rattle.fin_stage.specs.Staged.{Run, worked}
+use Rattle.fin_stage.specs.Staged.{Run, worked, asked_to_read}
 use Rattle.fin_looplet.specs.declared.looplet.Looplet.{Looplet}
 use Rattle.fin_looplet.specs.Lists.{views}
 use Rattle.fin_looplet.specs.View.{stops}
@@ -27,7 +27,7 @@ use Rattle.fin_ast.specs.Dense.{shape_at, range_of}
 use Rattle.fin_simp.specs.Moving.{stays}
 use Rattle.fin_drive.specs.declared.reading.Reading.{Reading}
 use Rattle.fin_drive.specs.Looplets.{driven_looplet}
-use Rattle.fin_drive.specs.Watches.{Watch, Tests, driven_in, masks_in, AllShow, IsPart}
+use Rattle.fin_drive.specs.Watches.{Watch, Tests, driven_in, masks_in, AllShow, IsPart, part_of}
 use Rattle.fin_drive.specs.Stopping.{stop_counts}
 use Rattle.fin_drive.specs.Standing.{StandsFor, asked_by, IsDriven, IsForRead, ShowsMask}
 use Rattle.fin_drive.specs.Loops.{IsFor, AllFor, ShowAlong}
@@ -288,6 +288,7 @@ made_nests_are_loops compare e n h = record {
 }
 
 pub made_nests_run : MasksCompare → MadeNestsRun
-made_nests_run compare w _ ctx var _ body _ _ vars r ts ls n made =
+made_nests_run compare w _ ctx var _ body _ _ vars r can ts ls n made =
     let e = entered w ctx var body vars r ts ls in
     (made_nests_are_loops compare e n made).loop refl (worked (entry_of e.loop.loop) r)
+    ∙ ap (λ (b : Bool). part_of e.loop e.from e.count (worked (entry_of e.loop.loop) (asked_to_read b r))) (sym can)

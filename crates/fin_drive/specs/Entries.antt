@@ -22,7 +22,7 @@ use Rattle.fin_simp.specs.Rest.{Access, Rest}
 use Rattle.fin_simp.specs.Sights.{Stand, Nowhere, At, Unsettled, driven_index, stand_at}
 use Rattle.fin_simp.specs.Moving.{access_stays, running}
 use Rattle.fin_simp.specs.Numbered.{Here}
-use Rattle.fin_simp.specs.Work.{World, Mask, parts_at, is_in, driven_at, driven_by, masks_of, length_of, Context, Worked, rests_in, inside, enter, entry_of, done}
+use Rattle.fin_simp.specs.Work.{World, Mask, parts_at, is_in, driven_at, driven_by, masks_of, length_of, Context, Worked, rests_in, all_fresh, can_be_entered, inside, enter, entry_of, done}
 use Rattle.fin_simp.specs.Costs.{Running}
 use Rattle.fin_drive.specs.declared.reading.Reading.{Reading}
 use Rattle.fin_drive.specs.declared.reading.Spot.{Spot}
@@ -190,8 +190,9 @@ entered w ctx var body vars r ts ls = record {
   count = (enter w (inside ctx var None) var false body vars r).len;
 }
 
--- such a nest does what the statement does, behind the charge of the loop's entry
+-- where the loop can be entered such a nest does what the statement does, behind the charge of its entry
 abbrev pub MadeNestsRun : Type 0
 MadeNestsRun = (w : World) (h : Here) (ctx : Context) (var : ℕ) (range : Option (ℕ × ℕ)) (body : List Worked) (line last : ℕ) (vars : Numbers) (r : Run)
+    → can_be_entered w false (all_fresh body) (rests_in (inside ctx var None) body) r ≡ true
     → (ts : Store) (ls : List ℤ) (n : Nest Run) → IsMade (entered w ctx var body vars r ts ls) n
     → fold (λ s. s) ts ls n (worked (entry_of (entered w ctx var body vars r ts ls).loop.loop) r) ≡ done w h (Stmt-F.Loop var range false body line last) ctx vars r

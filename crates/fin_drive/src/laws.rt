@@ -98,8 +98,8 @@ pub fn made_nests_are_loops()
     masks_compare();
 }
 
-/// Over all coordinates of a loop of a program that isn't parallel such a nest does what the statement does, behind the
-/// charge of the loop's entry.
+/// Over all coordinates of a loop of a program that isn't parallel and can be entered such a nest does what the statement
+/// does, behind the charge of the loop's entry.
 pub fn made_nests_run()
     ensures { MadeNestsRun }
 {

@@ -29,6 +29,9 @@ mod Counting
 pub mod Origins
 mod Moving
 pub mod Loops
+pub mod Fresh
+pub mod Holding
+pub mod GoingOn
 mod Extents
 mod Singles
 pub mod Gaps

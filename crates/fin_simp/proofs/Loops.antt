@@ -10,7 +10,7 @@ use Rattle.fin_stage.specs.Staged.{Run}
 use Rattle.fin_simp.specs.Numbered.{Here, behind, behind_test, past_stmt, numbered, numbered_all}
 use Rattle.fin_simp.specs.Left.{Marks}
 use Rattle.fin_simp.specs.Rest.{Rest, all_rest, rest_step, all_written, written_step}
-use Rattle.fin_simp.specs.Work.{World, Context, Worked, work_step, rests_in, inside}
+use Rattle.fin_simp.specs.Work.{World, Context, Worked, work_step, rests_in, asked_to_enter, inside}
 use Rattle.fin_simp.specs.Costs.{Running}
 use Rattle.fin_simp.specs.Pieces.{MovesOn, Moves}
 use Rattle.fin_simp.specs.Moving.{access_stays, ReadsStay, worked_all, running, LoopsByPieces}
@@ -78,4 +78,4 @@ module _ (w : World) (body : List Stmt) (h : Here) (stay : ReadsStay w.setting b
 pub loops_by_pieces : LoopsByPieces
 loops_by_pieces w h ctx var range par body line last vars r bound stay =
     let x = running w ctx var par (worked_all w body h) vars r in
-    loop_costs.pieces x r (masks_compare vars var (rests_in (inside ctx var None) (worked_all w body h))) (moves_by w body h stay ctx var par vars r bound x.loop.len refl)
+    loop_costs.pieces x (asked_to_enter w (inside ctx var None) par (worked_all w body h) r) (masks_compare vars var (rests_in (inside ctx var None) (worked_all w body h))) (moves_by w body h stay ctx var par vars r bound x.loop.len refl)

@@ -11,7 +11,7 @@ use Rattle.fin_ast.specs.Dense.{Setting, shape_at}
 use Rattle.fin_stage.specs.Staged.{Run, worked}
 use Rattle.fin_simp.specs.Numbered.{Here, numbered_all}
 use Rattle.fin_simp.specs.Rest.{Access, Rest, all_written, written_step}
-use Rattle.fin_simp.specs.Work.{World, Context, Worked, work_step, all_of, rests_in, enter, entry_of, inside, marks_within, ends_after, done}
+use Rattle.fin_simp.specs.Work.{World, Context, Worked, work_step, all_of, rests_in, asked_to_enter, enter, entry_of, inside, marks_within, ends_after, done}
 use Rattle.fin_simp.specs.Costs.{Running}
 use Rattle.fin_simp.specs.Pieces.{pieces_in, by_pieces}
 
@@ -45,8 +45,9 @@ running w ctx var par body vars r = record {
   vars = vars;
 }
 
--- a loop does, coordinate by coordinate, what it does piece by piece
+-- behind what its entry asks a loop does, coordinate by coordinate, what it does piece by piece
 abbrev pub LoopsByPieces : Type 0
 LoopsByPieces = (w : World) (h : Here) (ctx : Context) (var : ℕ) (range : Option (ℕ × ℕ)) (par : Bool) (body : List Stmt) (line last : ℕ) (vars : Numbers) (r : Run) → var < length vars → ReadsStay w.setting body h
     → (let x = running w ctx var par (worked_all w body h) vars r in
-    done w h (Stmt-F.Loop var range par (worked_all w body h) line last) ctx vars r ≡ by_pieces x (pieces_in (ends_after x.loop vars) x.loop.len x.loop.lo) x.loop.lo (worked (entry_of x.loop) r))
+    done w h (Stmt-F.Loop var range par (worked_all w body h) line last) ctx vars r
+    ≡ by_pieces x (pieces_in (ends_after x.loop vars) x.loop.len x.loop.lo) x.loop.lo (worked (entry_of x.loop) (asked_to_enter w (inside ctx var None) par (worked_all w body h) r)))

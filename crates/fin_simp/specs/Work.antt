@@ -1,7 +1,7 @@
 -- The work of a program, by the pieces of its loops, beside its run by stages. A piece's cost is shared out to its
 -- coordinates: the first one bears the cost of an update that is done once for all of them.
-use Rattle.std.specs.Prelude.{ℕ, zero, suc, ◌+◌, ◌-◌, ◌*◌, ◌/◌, min, Bool, true, false, not, ◌&&◌, ◌||◌, nat_eq, nat_lt, if◌then◌else◌, ℤ, pos, List, [], ◌∷◌, map, filter_map, length, sum, Option, Some, None, slice_set, slice_index_or, option_map}
-use Rattle.std.specs.List.{list_all, list_any, range_with_len}
+use Rattle.std.specs.Prelude.{ℕ, zero, suc, ◌+◌, ◌-◌, ◌*◌, ◌/◌, min, Bool, true, false, not, ◌&&◌, ◌||◌, nat_eq, nat_lt, if◌then◌else◌, ℤ, pos, List, [], ◌∷◌, map, filter_map, length, sum, Option, Some, None, is_some, slice_set, slice_index_or, option_map}
+use Rattle.std.specs.List.{list_all, list_any, range_with_len, concat}
 use Rattle.std.specs.Option.{option_or}
 use Rattle.std.specs.Ordering.{int_eq}
 use Rattle.fin_base.specs.Words.{operate}
@@ -22,11 +22,12 @@ use Rattle.fin_ast.specs.Kinds.{is_input}
 use Rattle.fin_ast.specs.Value.{Numbers, place, value_of}
 use Rattle.fin_ast.specs.Actions.{Declare, Freeze, Thaw, Update, in_turn}
 use Rattle.fin_ast.specs.Dense.{Setting, fill_of, shape_at, range_of, setting_of, unbound}
-use Rattle.fin_stage.specs.Stages.{Stage, Absent, Built, Frozen, stage_at}
-use Rattle.fin_stage.specs.Staged.{Run, Action, worked, with_value, braced, leaf, before_all}
+use Rattle.fin_stage.specs.Stages.{Stage, Absent, Built, Frozen, stage_at, is_declared}
+use Rattle.fin_stage.specs.Staged.{Run, Action, worked, tensors_of, asked_to_read, is_made, with_value, braced, leaf, before_all}
 use Rattle.fin_simp.specs.Numbered.{Here, outset, numbered_all}
 use Rattle.fin_simp.specs.Left.{Marks, nothing_known, binding}
 use Rattle.fin_simp.specs.Rest.{Access, Test, Rest, Kind, Nothing, OneUpdate, Other, is_none_kind, expr_rest, test_rest, rest_step, all_rest, written_step, all_written}
+use Rattle.fin_simp.specs.Fresh.{fresh_step}
 use Rattle.fin_simp.specs.Sights.{Stand, Unsettled, Sight, driven_index, stand_at, sight_at, length_at}
 
 -- ---- storages
@@ -248,10 +249,11 @@ abbrev pub marks_within : Context → Marks
 marks_within None = nothing_known
 marks_within (Some m) = m
 
--- what is left of a statement, what is written in it, and what it does
+-- what is left of a statement, what is written in it, the tensors that it declares, and what it does
 pub record Worked : Type 0 where
   pub rest : Marks → Rest
   pub written : Rest
+  pub fresh : List ℕ
   pub run : Context → Action
 
 abbrev pub rest_in : Context → Worked → Rest
@@ -261,6 +263,9 @@ rest_in (Some m) s = s.rest m
 abbrev pub rests_in : Context → List Worked → Rest
 rests_in None body = all_written (map (λ (s : Worked). s.written) body)
 rests_in (Some m) body = all_rest (map (λ (s : Worked). s.rest) body) m
+
+abbrev pub all_fresh : List Worked → List ℕ
+all_fresh body = concat (map (λ (s : Worked). s.fresh) body)
 
 abbrev pub all_of : List Worked → Context → Action
 all_of body ctx = braced (in_turn (map (λ (s : Worked). s.run ctx) body))
@@ -274,6 +279,20 @@ enter w ctx var par body vars r = record {
   driven = driven_by w vars r var (rests_in ctx body);
   masks = masks_of vars var (rests_in ctx body);
 }
+
+-- a tensor that is read can be read at a loop's entry, where what is left of the body doesn't change it
+abbrev pub can_be_read : World → Run → List ℕ → Access → Bool
+can_be_read w r changed a = is_in changed a.tensor || is_some (tensors_of w.setting r a.tensor)
+
+abbrev pub is_absent : World → Run → ℕ → Bool
+is_absent w r t = is_made w.setting t && not (is_declared (stage_at r.stages t))
+
+-- and each chunk of a parallel loop has tensors of its own, which aren't there before it
+abbrev pub can_be_entered : World → Bool → List ℕ → Rest → Run → Bool
+can_be_entered w par fresh rest r = list_all (can_be_read w r rest.changed) rest.reads && (not par || list_all (is_absent w r) fresh)
+
+abbrev pub asked_to_enter : World → Context → Bool → List Worked → Run → Run
+asked_to_enter w ctx par body r = asked_to_read (can_be_entered w par (all_fresh body) (rests_in ctx body) r) r
 
 abbrev pub looped : Entered → (Marks → Rest) → (Marks → Action) → Marks → Action
 looped e rest body m vars r = turns (turn e rest body m vars) (ends_after e vars) e.len true e.lo (worked (entry_of e) r)
@@ -298,7 +317,8 @@ bound w None var value body vars r = with_value w value vars (λ v r'. body (sli
 abbrev pub done : World → Here → Stmt-F Worked → Context → Action
 done w h (Stmt-F.Block body line last) ctx vars r = all_of body ctx vars r
 done w h (Stmt-F.Loop var range par body line last) ctx vars r =
-    looped (enter w (inside ctx var None) var par body vars r) (λ m. rests_in (Some m) body) (λ m. all_of body (Some m)) (marks_within (inside ctx var None)) vars r
+    looped (enter w (inside ctx var None) var par body vars r) (λ m. rests_in (Some m) body) (λ m. all_of body (Some m)) (marks_within (inside ctx var None)) vars
+    (asked_to_enter w (inside ctx var None) par body r)
 done w h (Stmt-F.Cond test body line last) ctx vars r = chosen w.setting (literal_in ctx (test_rest test h)) test (all_of body ctx) vars r
 done w h (Stmt-F.Bind var value body line last) ctx vars r =
     let literal = literal_in ctx (λ m. (expr_rest value h.read m).literal) in
@@ -318,6 +338,7 @@ abbrev pub work_step : World → Here → Stmt-F Worked → Worked
 work_step w h s = record {
   rest = rest_step h (map-Stmt Worked (Marks → Rest) (λ x. x.rest) s);
   written = written_step h (map-Stmt Worked Rest (λ x. x.written) s);
+  fresh = fresh_step (map-Stmt Worked (List ℕ) (λ x. x.fresh) s);
   run = λ ctx vars r. unless_nothing (elim ctx as (λ _. Kind) [ None ↦ Other | Some m ↦ (rest_step h (map-Stmt Worked (Marks → Rest) (λ x. x.rest) s) m).kind ]) r (done w h s ctx vars r);
 }
 

@@ -26,9 +26,9 @@ mod written;
 pub use expr_rest::{Access, ExprRest, ExprRestWalk, rest_of_expr};
 pub use facts::{Bound, Facts, Gap, Known};
 pub use laws::{
-    accepted_stay, gaps_have_fill, known_lasts, loop_costs, loops_by_pieces, masks_compare,
-    nothing_is_left, nothing_makes_nothing, nothing_stages_nothing, nothing_stays_nothing,
-    pieces_cost, reads_are_found, reads_remain, simplified_means_the_same,
+    accepted_stay, gaps_have_fill, known_lasts, loop_costs, loops_are_enterable, loops_by_pieces,
+    masks_compare, nothing_is_left, nothing_makes_nothing, nothing_stages_nothing,
+    nothing_stays_nothing, pieces_cost, reads_are_found, reads_remain, simplified_means_the_same,
     simplified_stages_the_same,
 };
 pub use nothing::{Seen, are_nothing, is_nothing};

@@ -52,7 +52,7 @@ module _ (w : World) where
   pub where_goes : (body : List Stmt) (vars : Numbers) (v : ℤ) → Goes set (where_holds (braced (stage_all set body)) vars v)
   where_goes body vars v r = either_goes_on (int_eq v (pos 0)) r r (braced (stage_all set body) vars r) (onward_still r) (braced_goes_on (stage_all set body) (all_go_on set body) vars r)
 
-  stage_goes : (x : Stmt) (vars : Numbers) → Goes set (stage_of set x vars)
+  pub stage_goes : (x : Stmt) (vars : Numbers) → Goes set (stage_of set x vars)
   stage_goes x vars = act_is (staging set) (Goes set) (parts_go_on set) x vars
 
   -- ---- a value that both runs ask for

@@ -15,7 +15,7 @@ use Rattle.fin_simp.specs.Numbered.{Here, behind, behind_test, past_stmt, number
 use Rattle.fin_simp.specs.Left.{Marks, binding}
 use Rattle.fin_simp.specs.Remaining.{literal_of, test_literal, are_nothing}
 use Rattle.fin_simp.specs.Laws.{IsGood}
-use Rattle.fin_simp.specs.Work.{World, Context, Worked, Entered, work_step, rests_in, all_of, enter, turn, inside, marks_within, marks_at, literal_in}
+use Rattle.fin_simp.specs.Work.{World, Context, Worked, Entered, work_step, rests_in, all_fresh, can_be_entered, all_of, enter, turn, inside, marks_within, marks_at, literal_in}
 use Rattle.fin_simp.specs.Moving.{worked_all}
 use Rattle.fin_work.specs.Following.{Follows}
 use Rattle.fin_work.proofs.Following.{SameDone}
@@ -71,7 +71,10 @@ pub record Carries (w : World) (I : Carried) (L : Looping) : Type 0 where
   -- an update
   pub update : (m : Marks) (t : ℕ) (at : List Index) (by : Reduce) (value : Expr) (line : ℕ) (xs : List Stmt) (h : Here) (vars : Numbers) (r r' : Run) → I (Some m) (s.Update t at by value line ∷ xs) h vars r r' → Follows r r'
       → can_read value (tensors_of w.setting r) ≡ true → IsRight (literal_of value h.read m) (value_of value vars (tensors_of w.setting r))
-  -- a loop: its entry, the body at a coordinate, and the next coordinate
+  -- a loop: what its entry asks for, the entry, the body at a coordinate, and the next coordinate
+  pub asked : (ctx : Context) (var : ℕ) (range : Option (ℕ × ℕ)) (par : Bool) (body : List Stmt) (line last : ℕ) (xs : List Stmt) (h : Here) (vars : Numbers) (r r' : Run)
+      → I ctx (s.Loop var range par body line last ∷ xs) h vars r r' → Follows r r'
+      → can_be_entered w par (all_fresh (worked_all w body h)) (rests_in (inside ctx var None) (worked_all w body h)) r' ≡ true
   pub enter : (ctx : Context) (var : ℕ) (range : Option (ℕ × ℕ)) (par : Bool) (body : List Stmt) (line last : ℕ) (xs : List Stmt) (h : Here) (vars : Numbers) (r r' n n' : Run)
       → I ctx (s.Loop var range par body line last ∷ xs) h vars r r' → Follows r r' → SameDone r n → SameDone r' n'
       → L ctx var body h vars (enter w (inside ctx var None) var par (worked_all w body h) vars r') (range_of w.setting var).0 n n'

@@ -33,6 +33,7 @@ use Rattle.fin_work.specs.Changing.{changed_by}
 use Rattle.fin_work.specs.Following.{Follows}
 use Rattle.fin_work.proofs.Parts.{readable_have_parts}
 use Rattle.fin_work.proofs.Following.{same_tensors}
+use Rattle.fin_work.proofs.Lived.{Lived}
 use Rattle.fin_work.proofs.Changing.{Quiet, out_of_within}
 use Rattle.fin_work.proofs.Numbering.{texts}
 use Rattle.fin_work.proofs.Looking.{Look, AllLooks, each_look}
@@ -116,6 +117,7 @@ module _ (c : Checked) (inputs : List Storage) (fit : FitProgram c inputs) (word
     pub good : AreWordy r.stages
     pub matches : Matches T (texts xs h).reads
     pub known : Known w T xs h (marks_within ctx) sc.loops next vars r'
+    pub lived : Lived c inputs sc xs r
 
   pub sees : (vars : Numbers) (r : Run) → Numbered IsWord vars → AreWordy r.stages → SeesWords vars (tensors_of set r)
   sees vars r k h = record { numbers = k; reads = λ t at. read_word (tensors_of set r t) at (either_wordy (made_at set.given t) (frozen_in (stage_at r.stages t)) (wordy.given t) (frozen_wordy (stage_at r.stages t) (h t))) }

@@ -13,6 +13,7 @@ mod Looking
 mod Known
 mod Written
 mod Coordinates
+mod Lived
 mod Holding
 mod Stepping
 mod Turning

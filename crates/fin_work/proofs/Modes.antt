@@ -1,9 +1,9 @@
 -- What the modes of tensors say of the reads that are left of a body, and of the tensors that a loop's body declares.
-use Rattle.std.proofs.Common.{◌≡◌, ◌==◌, ℕ, ℤ, pos, Bool, true, false, ◌&&◌, ◌||◌, List, [], ◌∷◌, ◌++◌, map, Option, Some, None, refl, sym, ap, ◌∙◌, if◌then◌else◌, eqb-true, eq-eqb}
+use Rattle.std.proofs.Common.{◌≡◌, ◌==◌, ℕ, ℤ, pos, Bool, true, false, ◌&&◌, ◌||◌, List, [], ◌∷◌, ◌++◌, Option, Some, None, refl, sym, ap, ◌∙◌, if◌then◌else◌, eqb-true, eq-eqb}
 use Rattle.std.proofs.Math.Bool.{or-true}
 use Rattle.std.proofs.lemmas.List.Folds.{list_all-append}
 use Rattle.std.specs.Prelude.{not}
-use Rattle.std.specs.List.{list_all, concat}
+use Rattle.std.specs.List.{list_all}
 use Rattle.std.specs.Ordering.{int_eq}
 use Rattle.fin_base.specs.declared.reduce.Reduce.{Reduce}
 use Rattle.fin_base.specs.declared.refusal.Rule.{Rule}
@@ -14,8 +14,7 @@ use Rattle.fin_ast.specs.declared.mode.Mode.TheVariants.{Update, Read}
 use Rattle.fin_ast.specs.declared.tree.Index.{Index}
 use Rattle.fin_ast.specs.declared.tree.Expr.{Expr}
 use Rattle.fin_ast.specs.declared.tree.Expr.TheVariants as expr
-use Rattle.fin_ast.specs.declared.tree.Stmt.{Stmt, fold-Stmt}
-use Rattle.fin_ast.specs.declared.tree.Stmt.TheOpen.{Stmt-F}
+use Rattle.fin_ast.specs.declared.tree.Stmt.{Stmt}
 use Rattle.fin_ast.specs.declared.tree.Stmt.TheVariants as s
 use Rattle.fin_ast.specs.Text.{Updates, Declares}
 use Rattle.fin_ast.specs.Modes.{is_input_at}
@@ -28,6 +27,7 @@ use Rattle.fin_simp.specs.Numbered.{Here, past_expr, behind, behind_test, past_s
 use Rattle.fin_simp.specs.Left.{Marks, nothing_known, binding, as_expr, left_of}
 use Rattle.fin_simp.specs.Remaining.{joined_literal, turned_literal, is_identity_literal}
 use Rattle.fin_simp.specs.Rest.{Access, ExprRest, Test, Kind, Nothing, OneUpdate, Other, Rest, nothing, all_rest, all_written, beside, no_expr, open_rest, rest_or, within_kind, chosen_rest, let_rest, updating_rest, test_rest, expr_rest_step, expr_rest, rest_step, rest_of, written_expr_step, reads_of, written_with, written_step, written}
+use Rattle.fin_simp.specs.Fresh.{fresh_step, fresh_of, fresh_in}
 use Rattle.fin_simp.specs.Work.{is_in}
 use Rattle.fin_simp.proofs.Induction.{ExprCases, by_expr}
 use Rattle.fin_simp.proofs.Equations.{at_num, at_var, at_read, at_neg, at_two, at_block, at_loop, at_cond, at_bind, at_declare, at_freeze, at_thaw, at_update}
@@ -363,22 +363,6 @@ pub written_reads_stand : (hs : List Header) (body : List Stmt) (h : Here) (begi
 written_reads_stand = write
 
 -- ---- the tensors that a body declares, anywhere in it
-abbrev pub fresh_step : Stmt-F (List ℕ) → List ℕ
-fresh_step (Stmt-F.Block body line last) = concat body
-fresh_step (Stmt-F.Loop var range par body line last) = concat body
-fresh_step (Stmt-F.Cond test body line last) = concat body
-fresh_step (Stmt-F.Bind var value body line last) = concat body
-fresh_step (Stmt-F.Declare tensor value line) = tensor ∷ []
-fresh_step (Stmt-F.Freeze tensor line) = []
-fresh_step (Stmt-F.Thaw tensor line) = []
-fresh_step (Stmt-F.Update tensor at by value line) = []
-
-abbrev pub fresh_of : Stmt → List ℕ
-fresh_of = fold-Stmt (List ℕ) fresh_step
-
-abbrev pub fresh_in : List Stmt → List ℕ
-fresh_in body = concat (map fresh_of body)
-
 abbrev is_fresh : ModeOf → ℕ → Bool
 is_fresh begin t = not (is_declared (begin t))
 

@@ -17,7 +17,7 @@ use Rattle.fin_ast.proofs.Acting.{act_block, act_loop, act_cond, act_bind, act_d
 use Rattle.fin_ast.proofs.Induction.{AllOf, Cases, all_by_kind}
 use Rattle.fin_ast.proofs.InBox.{in_box}
 use Rattle.fin_stage.specs.Stages.{stage_at, function_in}
-use Rattle.fin_stage.specs.Staged.{Run, Action, worked, regular, tensors_of, can_read, asked_for_small, are_small, braced, repeated, update, leaf, staging, stage_of, stage_all}
+use Rattle.fin_stage.specs.Staged.{Run, Action, worked, regular, tensors_of, can_read, asked_to_read, asked_for_small, are_small, braced, repeated, update, leaf, staging, stage_of, stage_all}
 use Rattle.fin_stage.specs.Trailing.{skipped, ChangesNothing}
 use Rattle.fin_stage.proofs.Onward.{Onward, onward_then, braced_goes_on, repeated_goes_on, all_go_on, Goes, small_goes_on, update_goes_on}
 use Rattle.fin_stage.proofs.Trailing.{regular_before, skip_trails}
@@ -27,7 +27,7 @@ use Rattle.fin_simp.specs.Simplified.{is_some_number}
 use Rattle.fin_simp.specs.Remaining.{literal_of, settled_literal, test_literal, is_identity_literal, nothing_step, is_nothing, are_nothing}
 use Rattle.fin_simp.specs.Rest.{Rest, is_none_kind, expr_rest, test_rest}
 use Rattle.fin_simp.specs.Laws.{IsGood}
-use Rattle.fin_simp.specs.Work.{World, Context, Worked, Entered, work_step, rests_in, all_of, enter, entry_of, turns, is_fixed, costing, first_share, inside, marks_within, marks_at, ends_after, literal_in, chosen, bound, done}
+use Rattle.fin_simp.specs.Work.{World, Context, Worked, Entered, work_step, rests_in, asked_to_enter, all_of, enter, entry_of, turns, is_fixed, costing, first_share, inside, marks_within, marks_at, ends_after, literal_in, chosen, bound, done}
 use Rattle.fin_simp.specs.Moving.{worked_all}
 use Rattle.fin_simp.proofs.Equations.{at_block, at_loop, at_cond, at_bind, at_declare, at_freeze, at_thaw, at_update}
 use Rattle.fin_simp.proofs.Literals.{same_number, rest_literal}
@@ -413,6 +413,7 @@ module _ (w : World) (I : Carried) (L : Looping) (carries : Carries w I L) where
       let f1 = follows_same (worked 1 r) r' start (paid (entry_of e) r') f0 in
       let l = carries.enter ctx var range par body line last xs h vars r r' (worked 1 r) start i f (paid 1 r) (paid (entry_of e) r') in
       let done_all = whole_follows ctx var par body all h vars r' n refl true (worked 1 r) start l f1 g' in
+      let asked : asked_to_enter w (inside ctx var None) par pieces r' ≡ r' = ap (λ (b : Bool). asked_to_read b r') (carries.asked ctx var range par body line last xs h vars r r' i f) in
       subst (λ (z : Run). Follows z ((worked_of w x h).run ctx vars r')) (sym is)
       (piece w x h (Stmt-F.Loop var range par pieces line last) (at_loop Worked (work_step w) var range par body line last h) ctx vars r' (by_stages_from ctx var par body all h vars r' n lo (worked 1 r))
       (λ m k q.
@@ -422,7 +423,7 @@ module _ (w : World) (I : Carried) (L : Looping) (carries : Carries w I L) where
       ∙ subst (λ (o : Context). are_nothing body h (known o var par body all h vars r' c) ≡ true) (sym k) (carries.nothing m var range par body line last xs h vars r r' c (subst (λ (o : Context). I o (x ∷ xs) h vars r r') k i) none) in
       follows_same (by_stages_from ctx var par body all h vars r' n lo (worked 1 r)) start r' (unpaid (entry_of e) r')
       (subst (Follows (by_stages_from ctx var par body all h vars r' n lo (worked 1 r))) (turns_rest ctx var par body all h vars r' n lo true start each) done_all))
-      (λ q. done_all))
+      (λ q. subst (λ (z : Run). Follows (by_stages_from ctx var par body all h vars r' n lo (worked 1 r)) (by_pieces_from ctx var par body all h vars r' n true lo (worked (entry_of e) z))) (sym asked) done_all))
 
   cases : Cases PieceFollows
   cases = record {

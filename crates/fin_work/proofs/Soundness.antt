@@ -8,14 +8,19 @@ use Rattle.fin_ast.specs.declared.checked.Dims.{Dims}
 use Rattle.fin_ast.specs.Accepted.{IsAccepted, FitProgram}
 use Rattle.fin_ast.specs.Bindings.{bindings_of_all}
 use Rattle.fin_ast.specs.Infer.{places_in}
+use Rattle.fin_ast.specs.Modes.{mode_at_start}
 use Rattle.fin_ast.specs.Scope.{outermost}
 use Rattle.fin_ast.specs.Sizes.{ranges_of}
 use Rattle.fin_ast.specs.Dense.{setting_of, unbound}
 use Rattle.fin_ast.specs.Value.{number}
+use Rattle.fin_ast.proofs.Unbroken.{first_none}
+use Rattle.fin_life.specs.Passage.{breach_in, passages_of}
 use Rattle.fin_stage.specs.Stages.{Stage, function_in}
 use Rattle.fin_stage.specs.Staged.{Run, before_all, staged}
 use Rattle.fin_stage.specs.Sound.{IsSound}
 use Rattle.fin_stage.specs.Wordy.{IsWordTensor, IsWordy}
+use Rattle.fin_stage.proofs.Alive.{Living}
+use Rattle.fin_stage.proofs.AliveWhole.{given_is, no_breach, start as start_lives}
 use Rattle.fin_stage.proofs.Fits.{nothing_fits, absent_at}
 use Rattle.fin_stage.proofs.Ranges.{ranges_count}
 use Rattle.fin_stage.proofs.Soundness.{accepted_is_sound}
@@ -69,6 +74,12 @@ module _ (c : Checked) (inputs : List Storage) (accepted : IsAccepted c) (fit : 
     good = λ t. subst (λ (x : Stage). IfSome (function_in x) IsWordTensor) (sym (absent_at c.program.headers t)) tt;
     matches = all_found 0 (texts c.program.body outset).reads _ (body_numbered c.program.body outset);
     known = nothing_right w T c.program.body outset [] 0 (unbound c.dims) start;
+    lived = record {
+      begin = mode_at_start c.program.headers;
+      now = mode_at_start c.program.headers;
+      unbroken = first_none (breach_in (passages_of c.program.headers c.program.body) (mode_at_start c.program.headers) (mode_at_start c.program.headers)) _ (no_breach c inputs accepted fit);
+      agreeing = record { given = given_is c inputs accepted fit; scoped = refl; long = Living.long (start_lives c inputs accepted fit); agree = Living.agree (start_lives c inputs accepted fit) };
+    };
   }
 
   sound : IsSound c inputs

@@ -28,7 +28,7 @@ use Rattle.fin_simp.specs.Left.{Marks, binding, fails, as_expr, left_of}
 use Rattle.fin_simp.specs.Remaining.{literal_of, settled_literal, nothing_step, is_nothing, are_nothing}
 use Rattle.fin_simp.specs.Rest.{Access, ExprRest, Test, Rest, is_none_kind, nothing, no_expr, within_kind, chosen_rest, let_rest, test_rest, expr_rest, rest_step, rest_of}
 use Rattle.fin_simp.specs.Wording.{KnowsWords, StaysIn, Further}
-use Rattle.fin_simp.specs.Work.{World, Context, Driven, Entered, Worked, work_step, is_in, driven_at, driven_by, gap_among, sight_of, marks_at, rests_in, enter, entry_of, turn, turns, is_fixed, costing, first_share, ends_after, all_of, chosen, bound, done}
+use Rattle.fin_simp.specs.Work.{World, Context, Driven, Entered, Worked, work_step, is_in, driven_at, driven_by, gap_among, sight_of, marks_at, rests_in, all_fresh, can_be_entered, asked_to_enter, enter, entry_of, turn, turns, is_fixed, costing, first_share, ends_after, all_of, chosen, bound, done}
 use Rattle.fin_simp.specs.Sights.{Sight, driven_index}
 use Rattle.fin_simp.specs.Moving.{worked_all}
 use Rattle.fin_simp.proofs.Equations.{at_block, at_loop, at_cond, at_bind, at_declare, at_freeze, at_thaw, at_update}
@@ -275,8 +275,11 @@ module _ (t : ℕ) where
             (λ z.
             let some = rests_agree body h (binding m var None) ∙ sym (ap (at_marks m) (at_loop (Marks → Bool) nothing_step var range par body line last h)) ∙ z in
             let free = out_of_within t r1.kind no_expr [] r1 some (moved _ (within_kind r1.kind no_expr [] r1) (ap (at_rest m) (at_loop (Marks → Rest) rest_step var range par body line last h)) f) in
-            let e = enter w (Some (binding m var None)) var par (worked_all w body h) vars r in
-            turns_keep var par body all (sym (node.of_loop Bool worded_stmt_step var range par body line last) ∙ q) h m k vars r free e.len true e.lo (worked (entry_of e) r));
+            let parts = worked_all w body h in
+            let inner = Some (binding m var None) in
+            let e = enter w inner var par parts vars r in
+            turns_keep var par body all (sym (node.of_loop Bool worded_stmt_step var range par body line last) ∙ q) h m k vars r free e.len true e.lo (worked (entry_of e) (asked_to_enter w inner par parts r))
+            ∙ read_keeps (can_be_entered w par (all_fresh parts) (rests_in inner parts) r) r);
         cond = λ test body line last all q h m k f vars r.
             let inner = behind_test test h in
             let both = sym (node.of_cond Bool worded_stmt_step test body line last) ∙ q in

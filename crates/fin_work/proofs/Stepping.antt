@@ -24,7 +24,7 @@ use Rattle.fin_ast.specs.Dense.{Setting, made_at, setting_of}
 use Rattle.fin_ast.specs.Value.{Numbers, number, value_of}
 use Rattle.fin_ast.proofs.Nodes as node
 use Rattle.fin_stage.specs.Stages.{Stage, stage_at, frozen_in, function_in}
-use Rattle.fin_stage.specs.Staged.{Run, tensors_of, can_read, stage_of}
+use Rattle.fin_stage.specs.Staged.{Run, regular, tensors_of, can_read, stage_of}
 use Rattle.fin_stage.specs.Wordy.{IsWordTensor, IsWordy, AreWordy}
 use Rattle.fin_stage.specs.Fitting.{StagesFit}
 use Rattle.fin_stage.proofs.Alive.{left, right}
@@ -48,6 +48,7 @@ use Rattle.fin_work.proofs.Changing.{quiet, free_append}
 use Rattle.fin_work.proofs.Following.{SameDone}
 use Rattle.fin_work.proofs.Holding.{Held, sees, reads_part, tests_part, right_here, number_of, chosen_back, let_back}
 use Rattle.fin_work.proofs.Known.{Below, TestRight, Table, Matches, Known, literal_right, value_word, test_right, nothing_right}
+use Rattle.fin_work.proofs.Lived.{lived_same, lived_next, begun, in_block, in_cond, in_bind}
 use Rattle.fin_work.proofs.Looking.{looks_of, looks, AllLooks, looks_first, looks_second, looks_block, looks_cond, looks_bind}
 use Rattle.fin_work.proofs.Numbering.{texts, reads_first, reads_second}
 use Rattle.fin_work.proofs.Standing.{frozen_of, piece_keeps}
@@ -98,6 +99,7 @@ module _ (c : Checked) (inputs : List Storage) (fit : FitProgram c inputs) (word
     good = subst AreWordy (sym a.stages) i.good;
     matches = i.matches;
     known = known_same xs h (marks_within ctx) i.sc.loops i.next vars r' n' b.stages i.known;
+    lived = lived_same c inputs i.sc xs r n a.stages i.lived;
   }
 
   pub held_good : (ctx : Context) (xs : List Stmt) (h : Here) (vars : Numbers) (r r' : Run) → H ctx xs h vars r r' → (t : ℕ) → IfSome (function_in (stage_at r.stages t)) IsGood
@@ -128,8 +130,8 @@ module _ (c : Checked) (inputs : List Storage) (fit : FitProgram c inputs) (word
           (looks_second (TestRight m n vars) (looks_of x h m) (looks xs (past_stmt x h) m) k.tests);
     }
 
-    pub held_next : (ctx : Context) → H ctx (x ∷ xs) h vars r r' → H ctx xs (past_stmt x h) vars (stage_of set x vars r) ((worked_of w x h).run ctx vars r')
-    held_next ctx i =
+    pub held_next : (ctx : Context) → H ctx (x ∷ xs) h vars r r' → regular (stage_of set x vars r) ≡ true → H ctx xs (past_stmt x h) vars (stage_of set x vars r) ((worked_of w x h).run ctx vars r')
+    held_next ctx i g =
         let two = counts_split i.next (bindings_of x) (bindings_of_all xs) i.counts in
         let long = length-append (bindings_of x) (bindings_of_all xs) in
         record {
@@ -145,6 +147,7 @@ module _ (c : Checked) (inputs : List Storage) (fit : FitProgram c inputs) (word
           good = stage_wordy set wordy x (worded_first i.worded) vars i.numbers r i.good;
           matches = reads_second Match (written x h).reads (texts xs (past_stmt x h)).reads i.matches;
           known = known_next ctx i.sc.loops i.next i.worded i.known;
+          lived = lived_next c inputs i.sc x xs vars r i.named g i.lived;
         }
 
   -- ---- a block
@@ -187,6 +190,7 @@ module _ (c : Checked) (inputs : List Storage) (fit : FitProgram c inputs) (word
           good = i.good;
           matches = subst (λ (z : Rest). Matches T z.reads) (at_block Rest written_step body line last h) (reads_first Match (written x h).reads (texts xs (past_stmt x h)).reads i.matches);
           known = known_block ctx i.sc.loops i.next i.known;
+          lived = begun c inputs i.sc body r (in_block c inputs i.sc xs r body line last i.lived);
         }
 
   -- ---- an `if`
@@ -268,6 +272,7 @@ module _ (c : Checked) (inputs : List Storage) (fit : FitProgram c inputs) (word
           good = i.good;
           matches = reads_second Match (reads_of test h.read) (texts body inner).reads (cond_matches ctx i);
           known = known_cond ctx i f can e;
+          lived = begun c inputs i.sc body r (in_cond c inputs i.sc xs r test body line last i.lived);
         }
 
   -- ---- an update
@@ -384,4 +389,5 @@ module _ (c : Checked) (inputs : List Storage) (fit : FitProgram c inputs) (word
       good = i.good;
       matches = reads_second Match (reads_of value h.read) (texts body after).reads (bind_matches ctx i);
       known = known_bind ctx i f can;
+      lived = begun c inputs (within_let i.sc var) body r (in_bind c inputs i.sc xs r var value body line last i.lived);
     }

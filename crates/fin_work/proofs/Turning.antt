@@ -20,7 +20,7 @@ use Rattle.fin_ast.proofs.Acting.{act_block}
 use Rattle.fin_ast.proofs.Alike.{Numbered}
 use Rattle.fin_ast.proofs.Nodes as node
 use Rattle.fin_stage.specs.Stages.{Stage, stage_at, frozen_in}
-use Rattle.fin_stage.specs.Staged.{Run, worked, tensors_of, staging}
+use Rattle.fin_stage.specs.Staged.{Run, worked, regular, tensors_of, staging}
 use Rattle.fin_stage.specs.Fitting.{StagesFit}
 use Rattle.fin_stage.specs.Wordy.{IsWordy, AreWordy}
 use Rattle.fin_stage.proofs.Alive.{left, right}
@@ -43,6 +43,7 @@ use Rattle.fin_work.proofs.Coordinates.{Entry, entered, known_at}
 use Rattle.fin_work.proofs.Following.{SameDone}
 use Rattle.fin_work.proofs.Holding.{Held, reads_part, tests_part, number_of, within_back, also_fits}
 use Rattle.fin_work.proofs.Known.{TestRight, Table, Matches, Known, nothing_right}
+use Rattle.fin_work.proofs.Lived.{BodyLived, body_same, begun, in_loop, body_again, enterable}
 use Rattle.fin_work.proofs.Looking.{looks_of, looks, AllLooks, looks_first, looks_loop}
 use Rattle.fin_work.proofs.Numbering.{texts, reads_first}
 use Rattle.fin_work.proofs.Standing.{frozen_of, further_at, words_at, pieces_keep}
@@ -80,6 +81,7 @@ module _ (c : Checked) (inputs : List Storage) (fit : FitProgram c inputs) (word
     pub unnamed : (around ctx var).vars var ≡ None
     pub known : Known w T body h (around ctx var) sc.loops var vars r'
     pub since : (t : ℕ) → is_in (rests_in (inside ctx var None) (worked_all w body h)).changed t ≡ false → tensors_of set r' t ≡ tensors_of set entry t
+    pub lived : BodyLived c inputs (within_loop sc var) body r
 
   word_at : (var k : ℕ) → k < (range_of set var).1 → IsWord (pos k)
   word_at var k lt = let most = wordy.ranges var in omega (arith, lt, most)
@@ -107,6 +109,7 @@ module _ (c : Checked) (inputs : List Storage) (fit : FitProgram c inputs) (word
     matches = l.matches;
     known = subst (λ (z : Entered). Known w T body h (marks_at z vars (around ctx var) k) (var ∷ l.sc.loops) (var + 1) (slice_set vars var (pos k)) r') (sym l.loop_is)
         (known_at c inputs fit wordy.fills T (inside ctx var None) var l.par body l.worded h vars (omega (arith, l.room)) l.entry l.entry_fits l.matches k l.sc.loops r' l.known l.unnamed l.since);
+    lived = begun c inputs (within_loop l.sc var) body r l.lived;
   }
 
   -- ---- the next coordinate
@@ -121,9 +124,9 @@ module _ (c : Checked) (inputs : List Storage) (fit : FitProgram c inputs) (word
     turn_keeps inner f false true begins = f r
     turn_keeps inner f false false begins = f (worked 1 r)
 
-  goes_on : (ctx : Context) (var : ℕ) (body : List Stmt) (h : Here) (vars : Numbers) (e : Entered) (k : ℕ) (r r' : Run) (begins : Bool) → Turning ctx var body h vars e k r r' → k < (range_of set var).1
+  goes_on : (ctx : Context) (var : ℕ) (body : List Stmt) (h : Here) (vars : Numbers) (e : Entered) (k : ℕ) (r r' : Run) (begins : Bool) → Turning ctx var body h vars e k r r' → k < (range_of set var).1 → regular (turned w var body vars k r) ≡ true
       → Turning ctx var body h vars e (k + 1) (turned w var body vars k r) (pieced_turn w ctx body h vars e begins k r')
-  goes_on ctx var body h vars e k r r' begins l high = record {
+  goes_on ctx var body h vars e k r r' begins l high g = record {
     sc = l.sc;
     par = l.par;
     entry = l.entry;
@@ -148,6 +151,7 @@ module _ (c : Checked) (inputs : List Storage) (fit : FitProgram c inputs) (word
       tests = l.known.tests;
     };
     since = λ t f. keeps t (Entry.covers (entered c inputs fit wordy.fills T (inside ctx var None) var l.par body l.worded h vars (omega (arith, l.room)) l.entry l.entry_fits l.matches) t f) ∙ l.since t f;
+    lived = body_again c inputs (within_loop l.sc var) body (slice_set vars var (pos k)) (worked 1 r) l.named g (body_same c inputs (within_loop l.sc var) body r (worked 1 r) refl l.lived);
   } where
     keeps_by : (t : ℕ) → is_in (changed_by body h (around ctx var)) t ≡ false → frozen_of t (pieced_turn w ctx body h vars (enter w (inside ctx var None) var l.par (worked_all w body h) vars l.entry) begins k r') ≡ frozen_of t r'
     keeps_by t f =
@@ -230,6 +234,7 @@ module _ (c : Checked) (inputs : List Storage) (fit : FitProgram c inputs) (word
           unnamed = unnamed_by ctx;
           known = known_same c inputs fit wordy T body h (around ctx var) i.sc.loops var vars r' n' b.stages (known_enter ctx i is);
           since = λ t q. same_readable c inputs fit wordy T t r' n' (ap (λ (ss : List Stage). frozen_in (stage_at ss t)) b.stages);
+          lived = body_same c inputs (within_loop i.sc var) body r n a.stages (in_loop c inputs i.sc xs r var range par body line last i.lived);
         }
 
     nothing_at : (m : Marks) (k : ℕ) → H (Some m) (loop_of ∷ xs) h vars r r' → NothingAt w m var par body h vars r' k
@@ -243,15 +248,16 @@ module _ (c : Checked) (inputs : List Storage) (fit : FitProgram c inputs) (word
   carried = record {
     good = step.held_good c inputs fit wordy T;
     work = step.held_work c inputs fit wordy T;
-    next = λ ctx x xs h vars r r' i f g fx. step.held_next c inputs fit wordy T x xs h vars r r' ctx i;
+    next = λ ctx x xs h vars r r' i f g fx. step.held_next c inputs fit wordy T x xs h vars r r' ctx i g;
     block = λ ctx body line last xs h vars r r' i. step.held_block c inputs fit wordy T body line last xs h vars r r' ctx i;
     test = λ m test body line last xs h vars r r' i f can. step.held_test c inputs fit wordy T test body line last xs h vars r r' m i f can;
     cond = λ ctx test body line last xs h vars r r' i f can e. step.held_cond c inputs fit wordy T test body line last xs h vars r r' ctx i f can e;
     value = λ m var value body line last xs h vars r r' i f can. step.held_value c inputs fit wordy T var value body line last xs h vars r r' m i f can;
     bind = λ ctx var value body line last xs h vars r r' i f can. step.held_bind c inputs fit wordy T var value body line last xs h vars r r' ctx i f can;
     update = λ m t at by value line xs h vars r r' i f can. step.held_update c inputs fit wordy T t at by value line xs h vars r r' m i f can;
+    asked = λ ctx var range par body line last xs h vars r r' i f. enterable c inputs i.sc var range body line last xs h r r' f (inside ctx var None) par i.lived;
     enter = λ ctx var range par body line last xs h vars r r' n n' i f a b. enters var range par body line last xs h vars r r' ctx n n' i f a b;
     nothing = λ m var range par body line last xs h vars r r' k i. nothing_at var range par body line last xs h vars r r' m k i;
     turn = λ ctx var body h vars e k r r' l f low high. at_turn ctx var body h vars e k r r' l high;
-    onward = λ ctx var body h vars e k r r' begins l f low high g one. goes_on ctx var body h vars e k r r' begins l high;
+    onward = λ ctx var body h vars e k r r' begins l f low high g one. goes_on ctx var body h vars e k r r' begins l high g;
   }
