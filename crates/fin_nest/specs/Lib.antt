@@ -10,3 +10,4 @@ pub mod Courses
 pub mod Styles
 pub mod Entries
 pub mod Joins
+pub mod Sparing
