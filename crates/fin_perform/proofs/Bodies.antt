@@ -29,7 +29,7 @@ use Rattle.fin_simp.specs.Numbered.{Here, behind_test, past_stmt, past_all}
 use Rattle.fin_simp.specs.Work.{World, Worked, Context, work_step, world_of, chosen}
 use Rattle.fin_simp.specs.Moving.{worked_all}
 use Rattle.fin_simp.proofs.Equations.{at_block, at_cond}
-use Rattle.fin_perform.specs.Bodies.{DoesTurns, DoesBody, BodyPerforms, BodiesPerform, TestsPerform}
+use Rattle.fin_perform.specs.Bodies.{DoesBody, BodyPerforms, BodiesPerform, TestsPerform}
 use Rattle.fin_perform.specs.Codes.{charge_of, cond_code}
 use Rattle.fin_perform.specs.Layouts.{heads_in, layout_with, start_with}
 use Rattle.fin_perform.specs.Performing.{Does, DoesStmt}
@@ -87,13 +87,14 @@ module _ (c : Checked) (room : ℕ) (inputs : List Storage) (p : Place) where
   abbrev layout : Layout
   layout = layout_with c room
 
-  body_does : (xs : List Stmt) (h : Here) (ctx : Context) (vars : Numbers) (cs : List Code) → DoesTurns c room inputs p cs xs h ctx vars → DoesBody c room inputs p cs xs h ctx vars
-  body_does xs h ctx vars cs d = record {
+  -- codes of what a body does do the body, at whose end is gone what was declared in it
+  pub closing_does : (cs : List Code) (f : Run → Run) → Does c room inputs p cs f → Does c room inputs p cs (λ r. closed r.stages (f r))
+  closing_does cs f d = record {
     performs = record {
-      does = λ r n ready k g. closed_behind start r.stages (turns_of world xs h ctx vars r) (meaning_all layout cs n) (d.performs.does r n ready k g);
+      does = λ r n ready k g. closed_behind start r.stages (f r) (meaning_all layout cs n) (d.performs.does r n ready k g);
       leaves = d.performs.leaves;
     };
-    advances = λ r. advances_then r (turns_of world xs h ctx vars r) (body_of world xs h ctx vars r) (d.advances r) (advances (turns_of world xs h ctx vars r) (body_of world xs h ctx vars r) (onward_closed r.stages (turns_of world xs h ctx vars r)));
+    advances = λ r. advances_then r (f r) (closed r.stages (f r)) (d.advances r) (advances (f r) (closed r.stages (f r)) (onward_closed r.stages (f r)));
   }
 
   module _ (ctx : Context) (vars : Numbers) where
@@ -114,7 +115,7 @@ module _ (c : Checked) (room : ℕ) (inputs : List Storage) (p : Place) where
           let g : Run → Run = run_of world x (past_all (map past_stmt xs) h) ctx vars in
           does_as c room inputs p (cs ++ ds) (turns_of world (xs ++ x ∷ []) h ctx vars) (λ r. g (turns_of world xs h ctx vars r)) (turns_joined world xs (x ∷ []) h ctx vars)
           (both_do c room inputs p cs ds (turns_of world xs h ctx vars) g stay a b);
-      body = λ xs h cs d. body_does xs h ctx vars cs d;
+      body = λ xs h cs d. closing_does cs (turns_of world xs h ctx vars) d;
       block = λ xs line last h cs some d.
           does_as c room inputs p cs (run_of world (s.Block xs line last) h ctx vars) (body_of world xs h ctx vars)
           (λ r. run_left world (s.Block xs line last) h (Stmt-F.Block (worked_all world xs h) line last) (at_block Worked (work_step world) xs line last h) vars r ctx some) d;

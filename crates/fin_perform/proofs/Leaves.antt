@@ -100,7 +100,7 @@ module _ (layout : Layout) (t : ℕ) where
   thaw_keeps : (m : Machine) → Keeps t m (meaning layout (code.Thaw t) m)
   thaw_keeps m = subst (Keeps t m) (sym (meaning_thaw layout t m)) (either_keeps t m.cut m m (thawed_at layout t (held m.tensors t) m) (keeps_same t m) (thawed_keeps (held m.tensors t) m))
 
-  put_keeps : (test : IExpr) (xs : List IExpr) (by : Reduce) (e : IExpr) (m : Machine) → Keeps t m (meaning layout (When test (Update t xs by e)) m)
+  pub put_keeps : (test : IExpr) (xs : List IExpr) (by : Reduce) (e : IExpr) (m : Machine) → Keeps t m (meaning layout (When test (Update t xs by e)) m)
   put_keeps test xs by e m = subst (Keeps t m) (sym (meaning_when layout test (Update t xs by e) m))
       (either_keeps t (is_off (value_in m test)) m m (meaning layout (Update t xs by e) m) (keeps_same t m)
       (subst (Keeps t m) (sym (meaning_update layout t xs by e m)) (keeps_update t (map (value_in m) xs) by (value_in m e) m)))
@@ -163,25 +163,25 @@ module _ (c : Checked) (room : ℕ) (inputs : List Storage) (fits : FitHeaders c
       abbrev after : ℤ → Run → Run
       after z r = update w t zs by z (asked_for_small (are_small vars at) r)
 
-      after_goes_on : (z : ℤ) (r : Run) → Onward r (after z r)
+      pub after_goes_on : (z : ℤ) (r : Run) → Onward r (after z r)
       after_goes_on z r = let small : Run = asked_for_small (are_small vars at) r in onward_then r small (after z r) (small_goes_on (are_small vars at) r) (update_goes_on w t zs by z small)
 
-      are_asked : (z : ℤ) (r : Run) → regular (after z r) ≡ true → are_small vars at ≡ true
+      pub are_asked : (z : ℤ) (r : Run) → regular (after z r) ≡ true → are_small vars at ≡ true
       are_asked z r g =
           let small : Run = asked_for_small (are_small vars at) r in
           was_small (are_small vars at) r (good_before small (after z r) (update_goes_on w t zs by z small) (good (after z r) g))
 
-      asked_is : (z : ℤ) (r : Run) → are_small vars at ≡ true → after z r ≡ update w t zs by z r
+      pub asked_is : (z : ℤ) (r : Run) → are_small vars at ≡ true → after z r ≡ update w t zs by z r
       asked_is z r small = ap (λ (b : Bool). update w t zs by z (asked_for_small b r)) small
 
-      after_monotone : (z : ℤ) → Monotone (after z)
+      pub after_monotone : (z : ℤ) → Monotone (after z)
       after_monotone z r r' tr g =
           let small = are_asked z r g in
           subst (λ (n : Run). RunTrails n (after z r')) (sym (asked_is z r small)) (subst (RunTrails (update w t zs by z r)) (sym (asked_is z r' small))
           (update_monotone w t zs by z r r' tr (sym (ap regular (asked_is z r small)) ∙ g)))
 
       -- the indices point to the run's coordinates
-      indices_go : (m : Machine) → Ready layout m p → are_small vars at ≡ true → map (value_in m) xs ≡ zs
+      pub indices_go : (m : Machine) → Ready layout m p → are_small vars at ≡ true → map (value_in m) xs ≡ zs
       indices_go m ready small =
           let ps : Numbers = words c room inputs fits given_fit sc vars p stands e named enough m in
           let long : length ps ≡ p.next = words_long c room inputs fits given_fit sc vars p stands e named enough m ready in

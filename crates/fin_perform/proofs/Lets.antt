@@ -89,7 +89,7 @@ module _ (c : Checked) (room : ℕ) (inputs : List Storage) (p : Place) (stay : 
     }
 
     -- at a place with one fact more, which says what the value is
-    assign_does : (k : Place) → k.next ≡ p.next → k.binds ≡ p.binds → k.steady ≡ p.steady → ((m : Machine) → Ready layout m k → Ready layout m p × (value_in m value ≡ z)) → Does c room inputs k (Assign var value ∷ cs) f
+    pub assign_does : (k : Place) → k.next ≡ p.next → k.binds ≡ p.binds → k.steady ≡ p.steady → ((m : Machine) → Ready layout m k → Ready layout m p × (value_in m value ≡ z)) → Does c room inputs k (Assign var value ∷ cs) f
     assign_does k e0 e1 e2 knows = record {
       performs = record {
         does = λ r m ready h.
@@ -119,7 +119,7 @@ module _ (c : Checked) (room : ℕ) (inputs : List Storage) (sc : Scope) (vars :
   abbrev body_in : List Stmt → Here → Context → Option ℤ → Action
   body_in xs h ctx o ns r = body_of world xs h (inside ctx var o) ns r
 
-  bind_is : (value : Expr) (xs : List Stmt) (line last : ℕ) (h : Here) (ctx : Context) → nothing_in (s.Bind var value xs line last) h ctx ≡ false → (o : Option ℤ) → literal_at value h ctx ≡ o → (r : Run)
+  pub bind_is : (value : Expr) (xs : List Stmt) (line last : ℕ) (h : Here) (ctx : Context) → nothing_in (s.Bind var value xs line last) h ctx ≡ false → (o : Option ℤ) → literal_at value h ctx ≡ o → (r : Run)
       → run_of world (s.Bind var value xs line last) h ctx vars r ≡ bound set o var value (body_in xs (behind value h) ctx o) vars r
   bind_is value xs line last h ctx some o e r =
       run_left world (s.Bind var value xs line last) h (Stmt-F.Bind var value (worked_all world xs (behind value h)) line last) (at_bind Worked (work_step world) var value xs line last h) vars r ctx some

@@ -17,6 +17,8 @@ pub mod Scoped
 pub mod Seen
 pub mod Standing
 pub mod Suiting
+pub mod Unpaid
+pub mod UnpaidMeanings
 pub mod Updating
 pub mod Valued
 pub mod Working

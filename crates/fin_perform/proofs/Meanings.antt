@@ -47,24 +47,24 @@ named_split (x ∷ xs) ys sc e =
 -- ---- the parts of statements
 
 module _ (xs : List Stmt) (line last : ℕ) where
-  block_bound : bindings_of (s.Block xs line last) ≡ bindings_of_all xs
+  pub block_bound : bindings_of (s.Block xs line last) ≡ bindings_of_all xs
   block_bound = of_block (List ℕ) bindings_step xs line last
 
-  block_named : (sc : Scope) → is_named (s.Block xs line last) sc ≡ true → are_named xs sc ≡ true
+  pub block_named : (sc : Scope) → is_named (s.Block xs line last) sc ≡ true → are_named xs sc ≡ true
   block_named sc e = sym (ap (λ (f : Scope → Bool). f sc) (of_block (Scope → Bool) stmt_step xs line last)) ∙ e
 
   module _ (test : Expr) where
-    cond_bound : bindings_of (s.Cond test xs line last) ≡ bindings_of_all xs
+    pub cond_bound : bindings_of (s.Cond test xs line last) ≡ bindings_of_all xs
     cond_bound = of_cond (List ℕ) bindings_step test xs line last
 
-    cond_named : (sc : Scope) → is_named (s.Cond test xs line last) sc ≡ true → (is_named_expr test sc && are_named xs sc) ≡ true
+    pub cond_named : (sc : Scope) → is_named (s.Cond test xs line last) sc ≡ true → (is_named_expr test sc && are_named xs sc) ≡ true
     cond_named sc e = sym (ap (λ (f : Scope → Bool). f sc) (of_cond (Scope → Bool) stmt_step test xs line last)) ∙ e
 
   module _ (var : ℕ) (value : Expr) where
-    bind_bound : bindings_of (s.Bind var value xs line last) ≡ var ∷ bindings_of_all xs
+    pub bind_bound : bindings_of (s.Bind var value xs line last) ≡ var ∷ bindings_of_all xs
     bind_bound = of_bind (List ℕ) bindings_step var value xs line last
 
-    bind_named : (sc : Scope) → is_named (s.Bind var value xs line last) sc ≡ true → (is_named_expr value sc && are_named xs (within_let sc var)) ≡ true
+    pub bind_named : (sc : Scope) → is_named (s.Bind var value xs line last) sc ≡ true → (is_named_expr value sc && are_named xs (within_let sc var)) ≡ true
     bind_named sc e = sym (ap (λ (f : Scope → Bool). f sc) (of_bind (Scope → Bool) stmt_step var value xs line last)) ∙ e
 
 module _ (c : Checked) (next need : ℕ) (ctx : Context) where
@@ -185,7 +185,7 @@ module _ (c : Checked) (next need : ℕ) (ctx : Context) where
     evaluated_does e enough a =
         let fine : end_of (value_code (heads_in c) value p.next) ≤ room = subst (λ (n : ℕ). end_of (value_code (heads_in c) value n) ≤ room) (sym u.next_is) (omega (arith, enough, le)) in
         let body : (z : ℤ) → DoesBody c room inputs (inner z) cs xs (behind value h) (inside ctx var None) (slice_set vars var z) =
-            λ z. subst (λ (k : Option ℤ). DoesBody c room inputs (inner z) cs xs (behind value h) (inside ctx var k) (slice_set vars var z)) e (inner_does z a) in
+        λ z. subst (λ (k : Option ℤ). DoesBody c room inputs (inner z) cs xs (behind value h) (inside ctx var k) (slice_set vars var z)) e (inner_does z a) in
         subst (λ (n : ℕ). DoesStmt c room inputs p (let_code var (value_code (heads_in c) value n) cs ∷ []) (s.Bind var value xs line last) h ctx vars) u.next_is
         (lets.evaluated inner value xs line last h ctx cs (left (is_named_expr value sc) (are_named xs (within_let sc var)) names) fine some (told ∙ e) (λ z. (inner_is z).inside) body)
 

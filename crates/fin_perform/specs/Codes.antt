@@ -28,11 +28,18 @@ abbrev pub thaw_code : Heads → ℕ → Code
 thaw_code h tensor = Seq (charge_of 1 ∷ Charge (count_of h tensor) ∷ Thaw tensor ∷ [])
 
 -- outside the box there is nothing to update
+abbrev pub put_code : Heads → ℕ → List Index → Reduce → IExpr → Code
+put_code h tensor at by value = let xs = map index_code at in When (in_box (shape_of h tensor) xs) (Update tensor xs by value)
+
 abbrev pub update_after : Heads → ℕ → List Index → Reduce → IExpr → List Code
-update_after h tensor at by value = let xs = map index_code at in When (in_box (shape_of h tensor) xs) (Update tensor xs by value) ∷ charge_of 1 ∷ []
+update_after h tensor at by value = put_code h tensor at by value ∷ charge_of 1 ∷ []
 
 abbrev pub update_code : Heads → ℕ → List Index → Reduce → Lowered → Code
 update_code h tensor at by v = Seq (prelude v ++ update_after h tensor at by v.value)
+
+-- an update whose work is paid elsewhere
+abbrev pub unpaid_update : Heads → ℕ → List Index → Reduce → Lowered → List Code
+unpaid_update h tensor at by v = prelude v ++ put_code h tensor at by v.value ∷ []
 
 -- ---- statements with bodies
 

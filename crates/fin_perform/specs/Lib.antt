@@ -8,5 +8,6 @@ pub mod Bodies
 pub mod Inside
 pub mod Places
 pub mod Meanings
+pub mod Once
 pub mod Built
 pub mod Programs

@@ -3,6 +3,7 @@ ghost use Rattle.fin_perform.specs.Begun.{BegunMachinesStand};
 ghost use Rattle.fin_perform.specs.Bodies.{BodiesPerform, TestsPerform, LetsPerform};
 ghost use Rattle.fin_perform.specs.Inside.{PlacesInside};
 ghost use Rattle.fin_perform.specs.Meanings.{MeaningsCompose};
+ghost use Rattle.fin_perform.specs.Once.{OnceCompose};
 ghost use Rattle.fin_perform.specs.Programs.{ProgramsStand};
 ghost use Rattle.fin_perform.specs.Performing.{NothingPerforms, LeavesPerform};
 
@@ -49,6 +50,12 @@ pub fn places_inside()
 /// statements without bodies, and of blocks, tests and lets.
 pub fn meanings_compose()
     ensures { MeaningsCompose }
+{}
+
+/// Codes that do the one update that is left of a part of a body, and pay nothing, do that of the whole: nothing else in
+/// it has codes, but a let of a literal that is around the update.
+pub fn once_compose()
+    ensures { OnceCompose }
 {}
 
 /// Codes that mean a program's statements outside all loops lead from the first machine to one that does what the run by

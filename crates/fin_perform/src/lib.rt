@@ -31,7 +31,7 @@ mod single;
 pub use around::{Let, cond_code, let_code, literal_code};
 pub use laws::{
     begun_machines_stand, bodies_perform, leaves_perform, lets_perform, meanings_compose,
-    nothing_performs, places_inside, programs_stand, tests_perform,
+    nothing_performs, once_compose, places_inside, programs_stand, tests_perform,
 };
 pub use single::{
     Placed, Update, declare_code, freeze_code, next_local, push_charge, push_update, thaw_code,

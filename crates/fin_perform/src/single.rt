@@ -106,6 +106,20 @@ pub fn push_update(
     ensures { let codes = spec.update_after heads.now update.now.tensor update.now.at.now update.now.by value in
         OnOk result (into.new ≡ into.old ++ codes) }
 {
+    let put = put_code(alloc, heads, update, value)?;
+    into.push(put)?;
+    push_charge(into)
+}
+
+/// The code of an update in the box, without its work.
+pub fn put_code(
+    alloc: Global,
+    heads: &Heads<'_>,
+    update: &Update<'_>,
+    value: IExpr,
+) -> Result<Code, AllocError>
+    ensures { IfOk result (λ c. c ≡ spec.put_code heads.now update.now.tensor update.now.at.now update.now.by value) }
+{
     let at = index_codes(alloc, update.at)?;
     let test = in_box(alloc, shape_of(heads, update.tensor), at.as_slice())?;
     let body = Boxed::new(
@@ -117,8 +131,7 @@ pub fn push_update(
             value,
         },
     )?;
-    into.push(Code::When { test, body })?;
-    push_charge(into)
+    Ok(Code::When { test, body })
 }
 
 /// The code of a statement, and how many locals it needs.
