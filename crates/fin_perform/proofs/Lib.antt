@@ -9,6 +9,7 @@ pub mod Given
 pub mod Headed
 pub mod Inside
 pub mod Leaves
+pub mod Leaving
 pub mod Lets
 pub mod Meanings
 pub mod Programs
@@ -21,4 +22,5 @@ pub mod Unpaid
 pub mod UnpaidMeanings
 pub mod Updating
 pub mod Valued
+pub mod Weights
 pub mod Working

@@ -9,5 +9,6 @@ pub mod Inside
 pub mod Places
 pub mod Meanings
 pub mod Once
+pub mod Appending
 pub mod Built
 pub mod Programs

@@ -22,10 +22,15 @@
 //! each place that suits the statement (`specs/Places.antt`), over any inputs, with at least as many locals as they need.
 //! A loop's code that means its loop fits in beside them. By `programs_stand` the codes that mean all statements of a
 //! program lead from the first machine to one that does what the run by pieces does.
+//!
+//! A piece of which one update is left that is the same at each coordinate is paid at once. The codes of such a body pay
+//! nothing: `push_once` appends them where the rest of a body by what is known is one update (`specs/Appending.antt`),
+//! and they mean the body without its work (`specs/Once.antt`); `once_compose` puts them together from their parts.
 #![tactic(auto)]
 
 mod around;
 mod laws;
+mod once;
 mod single;
 
 pub use around::{Let, cond_code, let_code, literal_code};
@@ -33,6 +38,7 @@ pub use laws::{
     begun_machines_stand, bodies_perform, leaves_perform, lets_perform, meanings_compose,
     nothing_performs, once_compose, places_inside, programs_stand, tests_perform,
 };
+pub use once::{Site, push_once, push_unpaid};
 pub use single::{
     Placed, Update, declare_code, freeze_code, next_local, push_charge, push_update, thaw_code,
     update_code,

@@ -17,7 +17,7 @@ pub mod Resting
 mod Single
 mod Rewriting
 mod Reading
-mod Gathering
+pub mod Gathering
 mod GatheredKinds
 mod Writing
 mod Lasting

@@ -24,7 +24,7 @@ mod spine;
 mod written;
 
 pub use expr_rest::{Access, ExprRest, ExprRestWalk, rest_of_expr};
-pub use facts::{Bound, Facts, Gap, Known};
+pub use facts::{Bound, Facts, Gap, Known, next_number, with_bound};
 pub use laws::{
     accepted_stay, gaps_have_fill, known_lasts, loop_costs, loops_are_enterable, loops_by_pieces,
     masks_compare, nothing_is_left, nothing_makes_nothing, nothing_stages_nothing,
