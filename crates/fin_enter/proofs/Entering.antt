@@ -13,6 +13,7 @@ use Rattle.fin_ir.specs.declared.expression.IExpr.TheVariants.{Num}
 use Rattle.std.specs.Prelude.{pos, option_map, slice_index_or}
 use Rattle.std.specs.List.{cons_option, filter_map}
 use Rattle.std.proofs.lemmas.List.Sums.{sum_by-cons}
+use Rattle.std.proofs.lemmas.Bool.{lt-ltb}
 use Rattle.fin_looplet.specs.View.{value}
 use Rattle.fin_read.specs.Steps.{stepped, Agree}
 use Rattle.fin_read.specs.Values.{Heads, format_of, shape_of, value_code}
@@ -30,14 +31,15 @@ use Rattle.fin_enter.specs.Bounds.{BoundsMean}
 use Rattle.fin_enter.specs.Together.{Around, settled_index, behind_place, all_positions, behind_all, CanBePlaced, AllCanStand, FoundIn, AllFound}
 use Rattle.fin_enter.specs.Masked.{Tested, as_mask, bound_steps, behind_bounds, AreBounds}
 use Rattle.fin_enter.specs.Entrances.{PlacedRead, AllPlaced}
-use Rattle.fin_enter.specs.Entering.{and_length, entry_lengths, HasLengths, driven_with, read_looplet, behind_cursor, read_looplets, behind_cursors, mask_looplets, around_in, tests_in, bounds_from, cursors_from, entered_by, CanDrive, AllCanDrive, CanEnter, IsNestOf, Enters, EntriesAreEntrances}
+use Rattle.fin_enter.specs.LoopEntry.{driven_with, waiting, read_looplet, behind_cursor, read_looplets, behind_cursors, mask_looplets, and_length, lengths_by}
+use Rattle.fin_enter.specs.Entering.{HasLengths, around_in, tests_in, bounds_from, cursors_from, entered_by, CanDrive, AllCanDrive, CanEnter, IsNestOf, Enters, EntriesAreEntrances}
 use Rattle.fin_enter.proofs.Charges.{lengths_mean}
 use Rattle.fin_enter.proofs.Indices.{indices_are_bound}
 use Rattle.fin_enter.proofs.Sites.{driven_within, stored_reads_are_found}
 use Rattle.fin_enter.proofs.Together.{place_grows, places_grow, all_positions_are_found}
 use Rattle.fin_enter.proofs.Masked.{bounds_grow as bounds_after, masks_are_tests, all_bounds_mean}
 
-cursor_grows : (o : Option (ℕ × Index)) (cursor : ℕ) → cursor ≤ behind_cursor o cursor
+pub cursor_grows : (o : Option (ℕ × Index)) (cursor : ℕ) → cursor ≤ behind_cursor o cursor
 cursor_grows None cursor = omega arith
 cursor_grows (Some d) cursor = omega arith
 
@@ -85,6 +87,12 @@ module _ (h : Heads) (sc : Scope) (e : Entry) where
         stored_reads_are_found e.world e.run e.store (format_of h a.tensor) a.tensor (c.store same) ks (spot_in at by) e.loop.vars a.at d.0
         (subst (λ (ns : List ℕ). IsFound e.store ks (spot_in at by) (stand_at e.loop.vars ns (parts a.tensor) a.at d.0 (Some 0))) (sym c.shape) got)
 
+    at_level : (a : Access) (d : ℕ × Index) (at cursor : ℕ) → driven_index e.loop.loop.var a.at ≡ Some d → CanDrive h sc e a
+        → read_looplet l a (Some d) at cursor ≡ driven_with l a d at cursor (shape_of h a.tensor)
+    at_level a d at cursor is c =
+        ap (λ (b : Bool). if b then driven_with l a d at cursor (shape_of h a.tensor) else waiting)
+        (lt-ltb d.0 (length (format_of h a.tensor).levels) (omega (arith, driven_within e.loop.loop.var a.at d is, c.each)))
+
     one_placed : (a : Access) (o : Option (ℕ × Index)) (at cursor : ℕ) → driven_index e.loop.loop.var a.at ≡ o → ((d : ℕ × Index) → driven_index e.loop.loop.var a.at ≡ Some d → CanDrive h sc e a)
         → FoundIn e.store ks h parts e.loop.vars a (settled_index l a) at → at < cursor → e.loop.loop.var ≤ at → behind_cursor o cursor ≤ length ks → PlacedRead e' a o (read_looplet l a o at cursor)
     one_placed a None at cursor is can found below var_below room = (Value (Num (pos 0)), refl)
@@ -106,7 +114,7 @@ module _ (h : Heads) (sc : Scope) (e : Entry) where
             store = c.store;
             found = found_as a d at cursor c is found;
           };
-          made = ap (driven_with l a d at cursor) (sym c.shape);
+          made = at_level a d at cursor is c ∙ ap (driven_with l a d at cursor) (sym c.shape);
         }
 
     all_placed : (reads : List Access) (at cursor : ℕ) (ms : List Mask) (mls : List Looplet) → AllCanDrive h sc e reads
@@ -174,11 +182,11 @@ module _ (h : Heads) (sc : Scope) (e : Entry) where
           total = omega (arith, rest.total, sum_by-cons (λ (k : ℕ). k) own (map length_of ds), sum_by-cons (λ (k : ℕ). k) own rest.numbers);
         }
 
-    all_lengths : (reads : List Access) (at : ℕ) → AllCanDrive h sc e reads → AllFound e.store ks l parts e.loop.vars reads at → HasLengths e ks (entry_lengths l reads at) (filter_map driven_of reads)
+    all_lengths : (reads : List Access) (at : ℕ) → AllCanDrive h sc e reads → AllFound e.store ks l parts e.loop.vars reads at → HasLengths e ks (lengths_by l reads at) (filter_map driven_of reads)
     all_lengths [] at can found = record { numbers = []; values = refl; total = refl }
     all_lengths (a ∷ reads) at can found =
         let next = behind_place (settled_index l a) at in
-        one_length a (driven_index e.loop.loop.var a.at) (is_in e.rest.changed a.tensor) at (entry_lengths l reads next) (filter_map driven_of reads) refl refl can.0 found.0
+        one_length a (driven_index e.loop.loop.var a.at) (is_in e.rest.changed a.tensor) at (lengths_by l reads next) (filter_map driven_of reads) refl refl can.0 found.0
         (all_lengths reads next can.1 found.1)
 
 -- ---- all together

@@ -1,6 +1,8 @@
 -- A machine that runs the codes of a loop's entry stands at the loop's nest.
-use Rattle.std.proofs.Common.{◌≡◌, inl, ℕ, ◌≤◌, List, length, map, sym, ap, ◌∙◌, subst, ℤ}
-use Rattle.std.specs.Prelude.{sum}
+use Rattle.std.proofs.Common.{◌≡◌, inl, ℕ, suc, ◌≤◌, List, [], ◌∷◌, length, map, Option, Some, None, refl, sym, ap, ◌∙◌, subst, ℤ, arith}
+use Rattle.std.specs.Prelude.{sum, option_map}
+use Rattle.std.specs.List.{cons_option, filter_map}
+use Rattle.std.proofs.lemmas.List.{length-map}
 use Rattle.fin_ir.specs.declared.expression.IExpr.{IExpr}
 use Rattle.fin_ir.specs.declared.layout.Layout.{Layout}
 use Rattle.fin_ir.specs.Machine.{Machine}
@@ -14,13 +16,18 @@ use Rattle.fin_nest.specs.Nests.{Nest}
 use Rattle.fin_nest.specs.Related.{Start, Live, Related}
 use Rattle.fin_nest.proofs.Statements.{all_append}
 use Rattle.fin_perform.proofs.Valued.{steps_go}
-use Rattle.fin_simp.specs.Work.{Driven, length_of, entry_of}
+use Rattle.fin_simp.specs.Rest.{Access}
+use Rattle.fin_simp.specs.Sights.{driven_index}
+use Rattle.fin_simp.specs.Work.{Driven, Mask, driven_at, length_of, entry_of}
 use Rattle.fin_drive.specs.Entries.{Entry}
 use Rattle.fin_enter.specs.Bounds.{BoundsMean}
 use Rattle.fin_enter.specs.Charges.{entry_codes, known_of, AreLengths}
+use Rattle.fin_enter.specs.Masked.{tested_among, as_mask}
+use Rattle.fin_enter.specs.LoopEntry.{driven_count, known_by}
 use Rattle.fin_enter.specs.Entering.{around_in, entry_steps, entry_lengths, entered_by, Enters}
-use Rattle.fin_enter.specs.EntryCodes.{entry_code, IsEnteredAt, RunsEntry, EntryCodesEnter}
+use Rattle.fin_enter.specs.EntryCodes.{entry_code, EntriesAreKnown, IsEnteredAt, RunsEntry, EntryCodesEnter}
 use Rattle.fin_enter.proofs.Charges.{entries_are_paid}
+use Rattle.fin_enter.proofs.Masked.{masks_are_tests}
 use Rattle.fin_enter.proofs.Entering.{entries_are_entrances}
 
 -- a machine with other locals from a number on does what the run does, where that is behind the pinned ones
@@ -40,6 +47,26 @@ live_with s pins r m ks next live long kept le = record {
   fits = live.fits;
 }
 
+-- ---- what is known of the loop where its code is made
+
+-- what a list keeps of its items is as long whatever is made of them
+kept_one : {Y Z : Type 0} (f : Y → Z) (o : Option Y) (zs : List Z) (ys : List Y) → length zs ≡ length ys → length (cons_option (option_map f o) zs) ≡ length (cons_option o ys)
+kept_one f None zs ys same = same
+kept_one f (Some y) zs ys same = ap (λ (n : ℕ). suc n) same
+
+kept_length : {X Y Z : Type 0} (f : X → Y → Z) (g : X → Option Y) (xs : List X) → length (filter_map (λ (x : X). option_map (f x) (g x)) xs) ≡ length (filter_map g xs)
+kept_length f g [] = refl
+kept_length f g (x ∷ xs) = kept_one (f x) (g x) (filter_map (λ y. option_map (f y) (g y)) xs) (filter_map g xs) (kept_length f g xs)
+
+pub entries_are_known : EntriesAreKnown
+entries_are_known h e is =
+    let loop = e.loop.loop in
+    let reads : length loop.driven ≡ driven_count loop.var e.rest.reads =
+    ap (λ (ds : List Driven). length ds) is.driven ∙ kept_length (driven_at e.world e.loop.vars e.run e.rest.changed) (λ (a : Access). driven_index loop.var a.at) e.rest.reads in
+    let tests : length loop.masks ≡ length (tested_among loop.var e.rest.tests) =
+    ap (λ (ms : List Mask). length ms) (is.masks ∙ masks_are_tests e.loop.vars loop.var e.rest.tests) ∙ length-map (tested_among loop.var e.rest.tests) (as_mask e.loop.vars) in
+    omega (arith, reads, tests)
+
 module _ (h : Heads) (e : Entry) (next : ℕ) (n : Nest Run) (layout : Layout) (s : Start) (pins : List ℤ) (m : Machine)
     (enters : Enters h e next n) (at : IsEnteredAt e s pins m) (le : length pins ≤ next) where
   abbrev ks : List ℤ
@@ -49,7 +76,7 @@ module _ (h : Heads) (e : Entry) (next : ℕ) (n : Nest Run) (layout : Layout) (
   placed = record m { locals = ks }
 
   abbrev lengths : List IExpr
-  lengths = entry_lengths (around_in h e) e.rest.reads next
+  lengths = entry_lengths h e next
 
   steps_are : meaning_all layout (map assign_of (entry_steps h e next)) m ≡ placed
   steps_are =
@@ -69,10 +96,13 @@ module _ (h : Heads) (e : Entry) (next : ℕ) (n : Nest Run) (layout : Layout) (
 
   runs_entry : RunsEntry h e next layout s pins m
   runs_entry =
+      let known = known_by (around_in h e) e.rest e.loop.loop.chunks in
       let charge = entry_codes (known_of e.loop.loop) lengths in
       let pays = entries_are_paid e.loop.loop lengths layout placed (λ live. lengths_are) in
       let same : meaning_all layout (entry_code h e next) m ≡ meaning_all layout charge placed =
-      all_append layout (map assign_of (entry_steps h e next)) charge m ∙ ap (meaning_all layout charge) steps_are in
+      all_append layout (map assign_of (entry_steps h e next)) (entry_codes known lengths) m
+      ∙ ap (λ (k : ℕ). meaning_all layout (entry_codes k lengths) (meaning_all layout (map assign_of (entry_steps h e next)) m)) (sym (entries_are_known h e at.entered))
+      ∙ ap (meaning_all layout charge) steps_are in
       record {
         runs = same ∙ pays.charges at.live.cut;
         related = subst (Related s pins (worked (entry_of e.loop.loop) e.run)) (sym same) (pays.related s pins e.run (inl live_placed));

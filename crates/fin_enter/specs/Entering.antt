@@ -1,78 +1,33 @@
--- The entry of a loop as it is made: the steps before its nest, the looplets of the nest, and the locals that both take.
-use Rattle.std.specs.Prelude.{◌≡◌, ℕ, ◌+◌, ◌<◌, ◌≤◌, ◌^◌, not, false, true, List, [], ◌∷◌, ◌++◌, length, map, sum, slice_index_or, ℤ, pos, Option, Some, None}
+-- The entry of a loop in a run, as it is made for the loop: what it asks for, and what it leaves.
+use Rattle.std.specs.Prelude.{◌≡◌, ℕ, ◌+◌, ◌<◌, ◌≤◌, ◌^◌, false, true, List, [], ◌∷◌, length, map, sum, ℤ, pos, Some}
 use Rattle.std.specs.List.{list_all}
-use Rattle.fin_tensor.specs.declared.format.Level.TheVariants as level
 use Rattle.fin_ast.specs.declared.tree.Index.{Index}
 use Rattle.fin_ast.specs.Scope.{Scope, is_index}
 use Rattle.fin_ast.specs.Dense.{shape_at, range_of}
 use Rattle.fin_ir.specs.declared.expression.IExpr.{IExpr}
 use Rattle.fin_ir.specs.declared.expression.IExpr.TheVariants.{Num}
 use Rattle.fin_stage.specs.Staged.{Run}
-use Rattle.fin_looplet.specs.declared.looplet.Leaf.TheVariants.{Value}
 use Rattle.fin_looplet.specs.declared.looplet.Looplet.{Looplet}
-use Rattle.fin_looplet.specs.declared.looplet.Looplet.TheVariants as looplet
 use Rattle.fin_looplet.specs.View.{value}
 use Rattle.fin_read.specs.Steps.{Step, stepped, Agree}
-use Rattle.fin_read.specs.Values.{Heads, format_of, shape_of, value_code}
+use Rattle.fin_read.specs.Values.{Heads, format_of, shape_of}
 use Rattle.fin_read.specs.Means.{IsWithin}
 use Rattle.fin_nest.specs.Nests.{Nest}
 use Rattle.fin_simp.specs.Rest.{Access}
 use Rattle.fin_simp.specs.Sights.{driven_index}
 use Rattle.fin_simp.specs.Moving.{access_stays}
 use Rattle.fin_simp.specs.Work.{Driven, is_in, driven_by, length_of}
-use Rattle.fin_drive.specs.declared.reading.Reading.{Reading}
-use Rattle.fin_drive.specs.Looplets.{back, driven_looplet, mask_looplet}
 use Rattle.fin_drive.specs.Turns.{seen_turn}
 use Rattle.fin_drive.specs.Watches.{watched}
 use Rattle.fin_drive.specs.Entries.{Entry, watches}
-use Rattle.fin_enter.specs.Charges.{length_code}
-use Rattle.fin_enter.specs.Positions.{spot_in}
 use Rattle.fin_enter.specs.Stores.{HasFormat, IsStoredAs}
 use Rattle.fin_enter.specs.Indices.{AreAround, small_offsets}
-use Rattle.fin_enter.specs.Together.{Around, settled_index, behind_place, all_positions, behind_all}
-use Rattle.fin_enter.specs.Masked.{Tested, tested_among, bound_steps, behind_bounds, AllCanBound}
+use Rattle.fin_enter.specs.Together.{Around}
+use Rattle.fin_enter.specs.Masked.{Tested, tested_among, AllCanBound}
 use Rattle.fin_enter.specs.Entrances.{IsEntrance}
+use Rattle.fin_enter.specs.LoopEntry.{bounds_by, cursors_by, behind_by, steps_by, looplets_by, lengths_by}
 
--- ---- looplets
-
-abbrev pub reading_with : Around → Access → ℕ × Index → ℕ → List ℕ → Reading
-reading_with l a d cursor shape = record {
-  var = l.var;
-  index = d.1;
-  tensor = a.tensor;
-  level = d.0;
-  extent = slice_index_or shape d.0 0;
-  settled = not (is_in l.changed a.tensor);
-  cursor = cursor;
-}
-
-abbrev pub driven_with : Around → Access → ℕ × Index → ℕ → ℕ → List ℕ → Looplet
-driven_with l a d at cursor shape = let r = reading_with l a d cursor shape in driven_looplet (format_of l.heads a.tensor) r (spot_in at (back r))
-
--- a read that the loop doesn't drive waits: what its leaf says is never asked
-abbrev pub read_looplet : Around → Access → Option (ℕ × Index) → ℕ → ℕ → Looplet
-read_looplet l a None at cursor = looplet.Run (Value (Num (pos 0)))
-read_looplet l a (Some d) at cursor = driven_with l a d at cursor (shape_of l.heads a.tensor)
-
--- each driven read has two locals of its own
-abbrev pub behind_cursor : Option (ℕ × Index) → ℕ → ℕ
-behind_cursor None cursor = cursor
-behind_cursor (Some d) cursor = cursor + 2
-
-abbrev pub read_looplets : Around → List Access → ℕ → ℕ → List Looplet
-read_looplets l [] at cursor = []
-read_looplets l (a ∷ reads) at cursor =
-    read_looplet l a (driven_index l.var a.at) at cursor ∷ read_looplets l reads (behind_place (settled_index l a) at) (behind_cursor (driven_index l.var a.at) cursor)
-
-abbrev pub behind_cursors : Around → List Access → ℕ → ℕ
-behind_cursors l [] cursor = cursor
-behind_cursors l (a ∷ reads) cursor = behind_cursors l reads (behind_cursor (driven_index l.var a.at) cursor)
-
-abbrev pub mask_looplets : Heads → List Tested → ℕ → List Looplet
-mask_looplets h [] next = []
-mask_looplets h (t ∷ ts) next = mask_looplet t.op t.bare_first (value_code h t.bound next).value ∷ mask_looplets h ts (value_code h t.bound next).next
-
--- ---- an entry, from its first free local on: positions, bounds, and the locals of looplets
+-- ---- an entry, from its first free local on
 
 abbrev pub around_in : Heads → Entry → Around
 around_in h e = record { heads = h; var = e.loop.loop.var; changed = e.rest.changed }
@@ -81,28 +36,22 @@ abbrev pub tests_in : Entry → List Tested
 tests_in e = tested_among e.loop.loop.var e.rest.tests
 
 abbrev pub bounds_from : Heads → Entry → ℕ → ℕ
-bounds_from h e next = behind_all (around_in h e) e.rest.reads next + 1
+bounds_from h e next = bounds_by (around_in h e) e.rest.reads next
 
 abbrev pub cursors_from : Heads → Entry → ℕ → ℕ
-cursors_from h e next = behind_bounds h (tests_in e) (bounds_from h e next) + 1
+cursors_from h e next = cursors_by (around_in h e) e.rest.reads e.rest.tests next
 
 abbrev pub behind_entry : Heads → Entry → ℕ → ℕ
-behind_entry h e next = behind_cursors (around_in h e) e.rest.reads (cursors_from h e next)
+behind_entry h e next = behind_by (around_in h e) e.rest.reads e.rest.tests next
 
 abbrev pub entry_steps : Heads → Entry → ℕ → List Step
-entry_steps h e next = all_positions (around_in h e) e.rest.reads next ++ bound_steps h (tests_in e) (bounds_from h e next)
+entry_steps h e next = steps_by (around_in h e) e.rest.reads e.rest.tests next
 
 abbrev pub entry_looplets : Heads → Entry → ℕ → List Looplet
-entry_looplets h e next = read_looplets (around_in h e) e.rest.reads next (cursors_from h e next) ++ mask_looplets h (tests_in e) (bounds_from h e next)
+entry_looplets h e next = looplets_by (around_in h e) e.rest.reads e.rest.tests next
 
--- the stored lengths of the driven reads whose positions are in locals
-abbrev pub and_length : Around → Access → Option (ℕ × Index) → ℕ → List IExpr → List IExpr
-and_length l a None at lengths = lengths
-and_length l a (Some d) at lengths = length_code (slice_index_or (format_of l.heads a.tensor).levels d.0 level.Dense) a.tensor d.0 at ∷ lengths
-
-abbrev pub entry_lengths : Around → List Access → ℕ → List IExpr
-entry_lengths l [] at = []
-entry_lengths l (a ∷ reads) at = and_length l a (settled_index l a) at (entry_lengths l reads (behind_place (settled_index l a) at))
+abbrev pub entry_lengths : Heads → Entry → ℕ → List IExpr
+entry_lengths h e next = lengths_by (around_in h e) e.rest.reads next
 
 -- behind the steps
 abbrev pub entered_by : Heads → Entry → ℕ → Entry
@@ -156,7 +105,7 @@ pub record HasLengths (e : Entry) (ls : List ℤ) (lengths : List IExpr) (ds : L
 pub record Enters (h : Heads) (e : Entry) (next : ℕ) (n : Nest Run) : Type 0 where
   pub long : length (entered_by h e next).locals ≡ length e.locals
   pub kept : Agree next (entered_by h e next).locals e.locals
-  pub lengths : HasLengths e (entered_by h e next).locals (entry_lengths (around_in h e) e.rest.reads next) (driven_by e.world e.loop.vars e.run e.loop.loop.var e.rest)
+  pub lengths : HasLengths e (entered_by h e next).locals (entry_lengths h e next) (driven_by e.world e.loop.vars e.run e.loop.loop.var e.rest)
   pub entrance : IsEntrance (entered_by h e next) n
 
 abbrev pub EntriesAreEntrances : Type 0

@@ -10,14 +10,24 @@ use Rattle.fin_read.specs.Steps.{assign_of}
 use Rattle.fin_read.specs.Values.{Heads}
 use Rattle.fin_nest.specs.Nests.{Nest}
 use Rattle.fin_nest.specs.Related.{Start, Live, Related}
+use Rattle.fin_simp.specs.Rest.{Rest}
 use Rattle.fin_simp.specs.Work.{entry_of}
 use Rattle.fin_drive.specs.Entries.{Entry, IsEntered}
 use Rattle.fin_enter.specs.Charges.{entry_codes, known_of}
-use Rattle.fin_enter.specs.Entering.{around_in, entry_steps, entry_lengths, entered_by, CanEnter, IsNestOf, Enters}
+use Rattle.fin_enter.specs.Together.{Around}
+use Rattle.fin_enter.specs.LoopEntry.{steps_by, lengths_by, known_by}
+use Rattle.fin_enter.specs.Entering.{around_in, entered_by, CanEnter, IsNestOf, Enters}
 
--- the steps to positions and bounds, and then the charge
+-- the steps to positions and bounds, and then the charge, for a loop with so many chunks
+abbrev pub code_by : Around → Rest → ℕ → ℕ → List Code
+code_by l rest chunks next = map assign_of (steps_by l rest.reads rest.tests next) ++ entry_codes (known_by l rest chunks) (lengths_by l rest.reads next)
+
 abbrev pub entry_code : Heads → Entry → ℕ → List Code
-entry_code h e next = map assign_of (entry_steps h e next) ++ entry_codes (known_of e.loop.loop) (entry_lengths (around_in h e) e.rest.reads next)
+entry_code h e next = code_by (around_in h e) e.rest e.loop.loop.chunks next
+
+-- what is known of an entered loop is what is known of what remains of its body
+abbrev pub EntriesAreKnown : Type 0
+EntriesAreKnown = (h : Heads) (e : Entry) → IsEntered e → known_of e.loop.loop ≡ known_by (around_in h e) e.rest e.loop.loop.chunks
 
 -- the loop is entered in a run that a machine does
 pub record IsEnteredAt (e : Entry) (s : Start) (pins : List ℤ) (m : Machine) : Type 0 where

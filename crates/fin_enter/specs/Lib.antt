@@ -8,5 +8,6 @@ pub mod Together
 pub mod Entrances
 pub mod Masked
 pub mod MaskCodes
+pub mod LoopEntry
 pub mod Entering
 pub mod EntryCodes

@@ -1,5 +1,5 @@
 -- The masks of a loop, for what the code has of a test, and their looplets.
-use Rattle.std.specs.Prelude.{ℕ, List, [], ◌∷◌, Option, option_map}
+use Rattle.std.specs.Prelude.{ℕ, Option, option_map}
 use Rattle.fin_read.specs.Values.{Heads, value_code}
 use Rattle.fin_nest.specs.declared.entries.Numbered.{Numbered}
 use Rattle.fin_drive.specs.Looplets.{mask_looplet}

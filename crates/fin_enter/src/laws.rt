@@ -8,7 +8,7 @@ ghost use Rattle.fin_enter.specs.Indices.{IndicesAreBound};
 ghost use Rattle.fin_enter.specs.Together.{AllPositionsAreFound};
 ghost use Rattle.fin_enter.specs.Entrances.{EntrancesAreMade};
 ghost use Rattle.fin_enter.specs.Entering.{EntriesAreEntrances};
-ghost use Rattle.fin_enter.specs.EntryCodes.{EntryCodesEnter};
+ghost use Rattle.fin_enter.specs.EntryCodes.{EntriesAreKnown, EntryCodesEnter};
 ghost use Rattle.fin_enter.specs.Masked.{AllBoundsMean, MasksAreTests};
 
 use fin_drive::distances_mean;
@@ -106,6 +106,11 @@ pub fn entries_are_entrances()
 {
     bounds_mean();
 }
+
+/// What is charged for a loop beside its stored lengths is known from the reads and tests that remain of its body.
+pub fn entries_are_known()
+    ensures { EntriesAreKnown }
+{}
 
 /// A machine that runs the codes of a loop's entry has the positions and the bounds in locals and has paid for the entry;
 /// it does what the run does, and a nest with the looplets of the loop's reads and masks is an entrance of the loop.
