@@ -12,3 +12,4 @@ pub mod Masked
 pub mod Entering
 pub mod EntryCodes
 pub mod Masking
+pub mod Pushing

@@ -9,5 +9,7 @@ pub mod Entrances
 pub mod Masked
 pub mod MaskCodes
 pub mod LoopEntry
+pub mod Pushed
+pub mod PushedMasks
 pub mod Entering
 pub mod EntryCodes

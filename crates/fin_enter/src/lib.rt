@@ -9,12 +9,16 @@
 //! a driven read's looplet asks of them and of these locals, and `specs/Entrances.antt` the nest behind them.
 #![tactic(auto)]
 
+mod body;
 mod driving;
 mod entry;
 mod laws;
 mod lengths;
+mod mask_codes;
 mod masks;
+mod placing;
 
+pub use body::{LoopBody, is_in, next_cursor, next_local, next_place, settled_index};
 pub use driving::driven_index;
 pub use entry::push_charges;
 pub use laws::{
@@ -24,4 +28,6 @@ pub use laws::{
     stored_reads_are_found, tensors_are_stored, tensors_have_formats,
 };
 pub use lengths::stored_length;
+pub use mask_codes::{Masks, push_masks};
 pub use masks::{MaskTest, is_bound, mask_test, push_mask};
+pub use placing::{push_position, push_positions};
