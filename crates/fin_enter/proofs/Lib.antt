@@ -13,3 +13,4 @@ pub mod Entering
 pub mod EntryCodes
 pub mod Masking
 pub mod Pushing
+pub mod LoopEntry

@@ -1,13 +1,15 @@
 -- Behind the steps that find its position a driven read stands as its looplet asks.
-use Rattle.std.proofs.Common.{◌≡◌, ℕ, zero, suc, ◌+◌, ◌<◌, ◌≤◌, ◌^◌, Bool, true, false, List, [], ◌∷◌, length, Option, Some, None, refl, subst, ℤ, arith, if◌then◌else◌}
+use Rattle.std.proofs.Common.{◌≡◌, ℕ, zero, suc, ◌+◌, ◌<◌, ◌≤◌, ◌^◌, Bool, true, false, List, [], ◌∷◌, length, Option, Some, None, ⊎_elim, refl, subst, ℤ, pos, arith, if◌then◌else◌}
 use Rattle.std.specs.Prelude.{nat_le, nat_eq, slice_index_or}
+use Rattle.fin_base.specs.declared.terms.Op.TheVariants as op
 use Rattle.fin_tensor.specs.declared.format.Format.{Format}
 use Rattle.fin_tensor.specs.declared.part.Part.{Part}
 use Rattle.fin_tensor.specs.Levels.{AreSmall}
 use Rattle.fin_ast.specs.declared.tree.Index.{Index}
 use Rattle.fin_ast.specs.Value.{Numbers}
 use Rattle.fin_ir.specs.declared.expression.IExpr.TheVariants as e
-use Rattle.fin_looplet.proofs.Exprs.{names_local}
+use Rattle.fin_looplet.specs.Names.{Names}
+use Rattle.fin_looplet.proofs.Exprs.{names_local, names_num, names_two}
 use Rattle.fin_unfurl.specs.Fibres.{IsApart}
 use Rattle.fin_simp.specs.Rest.{Access}
 use Rattle.fin_simp.specs.Sights.{behind_index, one_deeper, driven_index, stand_at}
@@ -53,11 +55,20 @@ module _ (vars : Numbers) (ls : List ℤ) where
 
 -- ---- the place
 
-local_apart : (at cursor : ℕ) → at < cursor → IsApart cursor (e.Local at)
+pub local_apart : (at cursor : ℕ) → at < cursor → IsApart cursor (e.Local at)
 local_apart at cursor lt = (
   λ n. let same = names_local cursor at n in absurd (omega (arith, lt, same)),
   λ n. let same = names_local (cursor + 1) at n in absurd (omega (arith, lt, same)),
 )
+
+-- nor does the question whether it is there name what the looplet owns
+not_there : (x at : ℕ) → (x ≡ at → ⊥) → Names x (e.Two op.Ge (e.Local at) (e.Num (pos 0))) → ⊥
+not_there x at other n =
+    ⊎_elim (λ (h : Names x (e.Local at)). other (names_local x at h)) (λ (h : Names x (e.Num (pos 0))). names_num x (pos 0) h) (names_two x op.Ge (e.Local at) (e.Num (pos 0)) n)
+
+pub there_apart : (at cursor : ℕ) → at < cursor → IsApart cursor (e.Two op.Ge (e.Local at) (e.Num (pos 0)))
+there_apart at cursor lt =
+    ((λ n. not_there cursor at (λ same. absurd (omega (arith, lt, same))) n), (λ n. not_there (cursor + 1) at (λ same. absurd (omega (arith, lt, same))) n))
 
 module _ (distance : DistancesMean) (x : Entry) (a : Access) (d : ℕ × Index) (format : Format) (at cursor : ℕ) (h : IsFooted x a d format at cursor) where
   held_as : is_in x.rest.changed a.tensor ≡ false → IsHeld x a d (site_of x a d format at cursor)

@@ -11,5 +11,6 @@ pub mod MaskCodes
 pub mod LoopEntry
 pub mod Pushed
 pub mod PushedMasks
+pub mod PushedReads
 pub mod Entering
 pub mod EntryCodes

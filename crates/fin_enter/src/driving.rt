@@ -1,8 +1,11 @@
-//! Which index of an access a loop drives.
-ghost use Rattle.std.specs.Prelude.{◌≡◌, ◌<◌, IfSome, length};
+//! Which index of an access a loop drives, and which accesses.
+ghost use Rattle.std.specs.Prelude.{◌≡◌, ◌<◌, IfOk, IfSome, length};
 ghost use Rattle.fin_simp.specs.Sights as sights;
+ghost use Rattle.fin_enter.specs.PushedReads as spec;
 
 use fin_ast::Index;
+use fin_simp::Access;
+use std::alloc::{AllocError, Global};
 
 fn behind_var(var: Option<u32>) -> u64
     ensures { result ≡ sights.behind_var var }
@@ -43,4 +46,29 @@ pub fn driven_index(var: u32, at: &[Index]) -> Option<(usize, Index)>
     } else {
         None
     }
+}
+
+/// Which of these reads the loop over a variable drives.
+pub fn drives(alloc: Global, var: u32, reads: &[Access]) -> Result<Vec<bool>, AllocError>
+    ensures { IfOk result (λ v. v.items ≡ spec.drives var reads.now) }
+{
+    let mut all = Vec::new(alloc);
+    for access in reads {
+        let is_driven = driven_index(var, access.at.as_slice()).is_some();
+        all.push(is_driven)?;
+    }
+    Ok(all)
+}
+
+/// How many of them.
+pub fn driven_count(var: u32, reads: &[Access]) -> usize
+    ensures { result ≡ spec.driven_among var reads.now }
+{
+    let mut count = 0;
+    for access in reads {
+        if driven_index(var, access.at.as_slice()).is_some() {
+            count += 1;
+        }
+    }
+    count
 }

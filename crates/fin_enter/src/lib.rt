@@ -14,12 +14,13 @@ mod driving;
 mod entry;
 mod laws;
 mod lengths;
+mod looplets;
 mod mask_codes;
 mod masks;
 mod placing;
 
 pub use body::{LoopBody, is_in, next_cursor, next_local, next_place, settled_index};
-pub use driving::driven_index;
+pub use driving::{driven_count, driven_index, drives};
 pub use entry::push_charges;
 pub use laws::{
     all_bounds_mean, all_positions_are_found, bounds_are_free, bounds_mean, entrances_are_made,
@@ -27,7 +28,8 @@ pub use laws::{
     footed_reads_stand, indices_are_bound, lengths_mean, masks_are_tests, positions_are_found,
     stored_reads_are_found, tensors_are_stored, tensors_have_formats,
 };
-pub use lengths::stored_length;
+pub use lengths::{entry_lengths, stored_length};
+pub use looplets::{read_looplet, read_looplets};
 pub use mask_codes::{Masks, push_masks};
 pub use masks::{MaskTest, is_bound, mask_test, push_mask};
 pub use placing::{push_position, push_positions};
