@@ -14,3 +14,4 @@ pub mod EntryCodes
 pub mod Masking
 pub mod Pushing
 pub mod LoopEntry
+pub mod MadeEntry

@@ -14,3 +14,4 @@ pub mod PushedMasks
 pub mod PushedReads
 pub mod Entering
 pub mod EntryCodes
+pub mod MadeEntry

@@ -7,10 +7,15 @@
 //! lengths of the fibres at these positions, whose code `stored_length` makes. `specs/Bounds.antt` says that the bounds
 //! of masks need no tensor. `specs/Stores.antt` has the tensors of a machine as a run has them, `specs/Sites.antt` what
 //! a driven read's looplet asks of them and of these locals, and `specs/Entrances.antt` the nest behind them.
+//!
+//! `enter` makes all of it: the code, and the looplets of the nest under their numbers. `specs/LoopEntry.antt` has them
+//! as functions of the loop's variable and what remains of its body. `specs/Entering.antt` says that behind the steps
+//! that nest is an entrance of the loop, `specs/EntryCodes.antt` what a machine has done behind the code.
 #![tactic(auto)]
 
 mod body;
 mod driving;
+mod entrance;
 mod entry;
 mod laws;
 mod lengths;
@@ -21,6 +26,7 @@ mod placing;
 
 pub use body::{LoopBody, is_in, next_cursor, next_local, next_place, settled_index};
 pub use driving::{driven_count, driven_index, drives};
+pub use entrance::{Entrance, LoopHead, enter};
 pub use entry::push_charges;
 pub use laws::{
     all_bounds_mean, all_positions_are_found, bounds_are_free, bounds_mean, entrances_are_made,
