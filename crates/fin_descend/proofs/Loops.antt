@@ -32,13 +32,13 @@ both_lists : (xs ys us vs : List Numbered) → (AllJumpless (looplets xs) → Al
 both_lists xs ys us vs f g h =
     both_jumpless (looplets us) (looplets vs) (f (first_jumpless (looplets xs) (looplets ys) h)) (g (last_jumpless (looplets xs) (looplets ys) h))
 
-one : (P : Nest → Type 0) (q : Nest) → P q → All P (q ∷ [])
+pub one : (P : Nest → Type 0) (q : Nest) → P q → All P (q ∷ [])
 one P q h = All-cons P q [] h (λ k d lt. absurd (omega (arith, lt)))
 
-two : (P : Nest → Type 0) (q r : Nest) → P q → P r → All P (q ∷ r ∷ [])
+pub two : (P : Nest → Type 0) (q r : Nest) → P q → P r → All P (q ∷ r ∷ [])
 two P q r h k = All-cons P q (r ∷ []) h (one P r k)
 
-by_if : {A : Type 0} (P : A → Type 0) (c : Bool) (x y : A) → P x → P y → P (if c then x else y)
+pub by_if : {A : Type 0} (P : A → Type 0) (c : Bool) (x y : A) → P x → P y → P (if c then x else y)
 by_if P true x y h k = h
 by_if P false x y h k = k
 
@@ -77,7 +77,7 @@ module _ (n : Nest) (h : Clear n) where
 abbrev Free : stepping.Nest → Type 0
 Free n = AllJumpless (steps.all_looplets n)
 
-one_along : (P : stepping.Nest → Type 0) (q : stepping.Nest) → P q → All P (q ∷ [])
+pub one_along : (P : stepping.Nest → Type 0) (q : stepping.Nest) → P q → All P (q ∷ [])
 one_along P q h = All-cons P q [] h (λ k d lt. absurd (omega (arith, lt)))
 
 module _ (n : stepping.Nest) (h : Free n) where

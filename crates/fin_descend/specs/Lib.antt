@@ -1,4 +1,5 @@
 pub mod Parts
+pub mod Leaves
 pub mod Promises
 pub mod Heads
 pub mod Jumpless

@@ -1,5 +1,7 @@
-//! What is proved of nests without jumpers.
+//! What is proved of nests without jumpers, and of the leaves in nests.
+ghost use Rattle.fin_looplet.specs.declared.looplet.Leaf.{Leaf};
 ghost use Rattle.fin_descend.specs.Jumpless.{PartsAreOfLoop, JumplessDontJump};
+ghost use Rattle.fin_descend.specs.Leaves.{Lasting, PartsKeepLeaves, RunsKeepLeaves, LeafWorded, IsNumberOrGap};
 
 /// The parts of a nest of a loop without jumpers are nests of the loop without jumpers.
 pub fn parts_are_of_loop()
@@ -9,4 +11,29 @@ pub fn parts_are_of_loop()
 /// A nest without jumpers hasn't the style of jumpers: it owes nothing for them.
 pub fn jumpless_dont_jump()
     ensures { JumplessDontJump }
+{}
+
+/// A property of leaves, whichever it is.
+pub trait LeafProperty {
+    ghost holds: { Leaf → Type 0 };
+}
+
+/// Where leaves in a nest's reads have a property that lasts, and leaves in its masks another, so it is in its parts.
+pub fn parts_keep_leaves<P: LeafProperty, Q: LeafProperty>()
+    ensures { PartsKeepLeaves P.holds Q.holds }
+{}
+
+/// Looplets that have come to runs are runs of leaves with the property.
+pub fn runs_keep_leaves<P: LeafProperty>()
+    ensures { RunsKeepLeaves P.holds }
+{}
+
+/// It lasts that fills are words.
+pub fn words_last()
+    ensures { Lasting LeafWorded }
+{}
+
+/// It lasts that leaves are numbers, or the gap where no phase is left.
+pub fn numbers_last()
+    ensures { Lasting IsNumberOrGap }
 {}

@@ -26,7 +26,10 @@ mod weights;
 pub use bodies::Bodies;
 pub use descending::descend;
 pub use fin_style_point::Nest;
-pub use laws::{jumpless_dont_jump, parts_are_of_loop};
+pub use laws::{
+    LeafProperty, jumpless_dont_jump, numbers_last, parts_are_of_loop, parts_keep_leaves,
+    runs_keep_leaves, words_last,
+};
 pub use lowered::{Known, Lowered, filled, greater, nothing};
 pub use stepping::{Split, step, take_first};
 pub use weights::weighs_nothing;
