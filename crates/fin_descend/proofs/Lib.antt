@@ -6,3 +6,5 @@ pub mod Jumpless
 pub mod Loops
 pub mod Lasting
 pub mod Cycle
+pub mod Sparing
+pub mod Framing

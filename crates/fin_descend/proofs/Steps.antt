@@ -17,14 +17,14 @@ use Rattle.fin_style_step.specs.declared.nest.Parts as along
 use Rattle.fin_style_step.specs.Parts as steps
 use Rattle.fin_style_step.specs.Splits as step_splits
 use Rattle.fin_descend.specs.declared.stepping.Split.{Split}
-use Rattle.fin_descend.specs.Parts.{as_stepping, as_point, weight_in, parts_of}
+use Rattle.fin_descend.specs.Parts.{as_stepping, as_point, weight_in, parts_of, frame_of}
 use Rattle.fin_descend.specs.Promises.{Divides, AllLighter, StaySeparate}
 
-chosen : (b : Bool) (x y : List Nest) → b ≡ true → x ≡ (if b then x else y)
+chosen : {A : Type 0} (b : Bool) (x y : A) → b ≡ true → x ≡ (if b then x else y)
 chosen true x y e = refl
 chosen false x y e = absurd (cc)
 
-other : (b : Bool) (x y : List Nest) → b ≡ false → y ≡ (if b then x else y)
+other : {A : Type 0} (b : Bool) (x y : A) → b ≡ false → y ≡ (if b then x else y)
 other true x y e = absurd (cc)
 other false x y e = refl
 
@@ -54,6 +54,11 @@ module _ (n : Nest) (p : at_points.Parts) (q : Split) (frame : q.frame ≡ p.fra
   points_are ours e =
       nests ∙ ap (λ (x : at_points.Parts). x.nests) e
       ∙ chosen (is_point_style (style_of (points.all_looplets n))) (points.parts_of n).nests (map as_point (steps.parts_of (as_stepping n)).nests) ours
+
+  pub points_framed : is_point_style (style_of (points.all_looplets n)) ≡ true → p ≡ points.parts_of n → q.frame ≡ frame_of n
+  points_framed ours e =
+      frame ∙ ap (λ (x : at_points.Parts). x.frame) e
+      ∙ chosen (is_point_style (style_of (points.all_looplets n))) (points.parts_of n).frame (steps.parts_of (as_stepping n)).frame ours
 
 -- ---- along a region
 
@@ -91,3 +96,8 @@ module _ (n : Nest) (p : along.Parts) (q : Split) (frame : q.frame ≡ p.frame) 
   steps_are ours e =
       nests ∙ ap (λ (x : along.Parts). map as_point x.nests) e
       ∙ other (is_point_style (style_of (points.all_looplets n))) (points.parts_of n).nests (map as_point (steps.parts_of (as_stepping n)).nests) ours
+
+  pub steps_framed : is_point_style (style_of (points.all_looplets n)) ≡ false → p ≡ steps.parts_of (as_stepping n) → q.frame ≡ frame_of n
+  steps_framed ours e =
+      frame ∙ ap (λ (x : along.Parts). x.frame) e
+      ∙ other (is_point_style (style_of (points.all_looplets n))) (points.parts_of n).frame (steps.parts_of (as_stepping n)).frame ours

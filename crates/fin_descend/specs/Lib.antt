@@ -3,3 +3,4 @@ pub mod Leaves
 pub mod Promises
 pub mod Heads
 pub mod Jumpless
+pub mod Sparing

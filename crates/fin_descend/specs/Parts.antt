@@ -1,5 +1,6 @@
--- The parts of a nest by the step of its style, whichever crate steps it.
+-- The parts of a nest by the step of its style and the frame for their codes, whichever crate steps it.
 use Rattle.std.specs.Prelude.{ℕ, max, List, [], ◌∷◌, map, if◌then◌else◌}
+use Rattle.fin_ir.specs.declared.code.Code.{Code}
 use Rattle.fin_nest.specs.Courses.{course_weight}
 use Rattle.fin_nest.specs.Styles.{style_of, is_point_style}
 use Rattle.fin_style_point.specs.declared.nest.Nest.{Nest}
@@ -43,3 +44,9 @@ abbrev pub parts_of : Nest → List Nest
 parts_of n =
     if is_point_style (style_of (points.all_looplets n)) then (points.parts_of n).nests
     else map as_point (steps.parts_of (as_stepping n)).nests
+
+-- the code of the step around those of the parts
+abbrev pub frame_of : Nest → Code
+frame_of n =
+    if is_point_style (style_of (points.all_looplets n)) then (points.parts_of n).frame
+    else (steps.parts_of (as_stepping n)).frame

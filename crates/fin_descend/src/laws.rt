@@ -1,7 +1,8 @@
-//! What is proved of nests without jumpers, and of the leaves in nests.
+//! What is proved of nests without jumpers, of the leaves in nests, and of what the code of a nest leaves as it is.
 ghost use Rattle.fin_looplet.specs.declared.looplet.Leaf.{Leaf};
 ghost use Rattle.fin_descend.specs.Jumpless.{PartsAreOfLoop, JumplessDontJump};
 ghost use Rattle.fin_descend.specs.Leaves.{Lasting, PartsKeepLeaves, RunsKeepLeaves, LeafWorded, IsNumberOrGap};
+ghost use Rattle.fin_descend.specs.Sparing.{PartsSpare, FillsSpare, SparesLess};
 
 /// The parts of a nest of a loop without jumpers are nests of the loop without jumpers.
 pub fn parts_are_of_loop()
@@ -36,4 +37,19 @@ pub fn words_last()
 /// It lasts that leaves are numbers, or the gap where no phase is left.
 pub fn numbers_last()
     ensures { Lasting IsNumberOrGap }
+{}
+
+/// The frame of a step assigns only locals of the nest, and so do those of its parts.
+pub fn steps_spare()
+    ensures { PartsSpare }
+{}
+
+/// Codes that leave something as it is, in a frame that does, make code that does.
+pub fn fills_spare()
+    ensures { FillsSpare }
+{}
+
+/// Code that leaves more as it is leaves less as it is.
+pub fn sparing_is_monotone()
+    ensures { SparesLess }
 {}

@@ -14,6 +14,9 @@
 //! It does so where the body is nothing at the coordinates that jumpers may pass over (`Jumps` of `fin_nest`): who runs
 //! the loop owes that of the whole nest. Of a loop whose nests hold no jumpers (`specs/Jumpless.antt`) it owes nothing,
 //! and the laws say that the parts hold none either.
+//!
+//! What the code of a nest leaves as it is in any machine, also where a run isn't regular, is seen from the code
+//! (`specs/Sparing.antt`): its frames assign only the looplets' own locals and those from the nest's first free one on.
 #![tactic(auto)]
 
 mod bodies;
@@ -27,8 +30,8 @@ pub use bodies::Bodies;
 pub use descending::descend;
 pub use fin_style_point::Nest;
 pub use laws::{
-    LeafProperty, jumpless_dont_jump, numbers_last, parts_are_of_loop, parts_keep_leaves,
-    runs_keep_leaves, words_last,
+    LeafProperty, fills_spare, jumpless_dont_jump, numbers_last, parts_are_of_loop,
+    parts_keep_leaves, runs_keep_leaves, sparing_is_monotone, steps_spare, words_last,
 };
 pub use lowered::{Known, Lowered, filled, greater, nothing};
 pub use stepping::{Split, step, take_first};
