@@ -1,5 +1,5 @@
 -- The tensors that what is left of a part of a statement changes, what is left of the statement changes.
-use Rattle.std.proofs.Common.{◌≡◌, ℕ, Bool, true, false, List, [], ◌∷◌, ◌++◌, Option, Some, None, refl, sym, ap, ◌∙◌, subst, ℤ, pos, arith}
+use Rattle.std.proofs.Common.{◌≡◌, ℕ, Bool, true, false, List, [], ◌∷◌, ◌++◌, Option, Some, None, refl, sym, ap, ◌∙◌, ℤ, pos, arith}
 use Rattle.std.specs.Prelude.{nat_eq, if◌then◌else◌, ◌||◌}
 use Rattle.std.specs.Ordering.{int_eq}
 use Rattle.std.proofs.lemmas.Bool.{or_left}
@@ -14,12 +14,12 @@ use Rattle.fin_ast.specs.declared.tree.Stmt.TheVariants as s
 use Rattle.fin_simp.specs.Left.{Marks, binding}
 use Rattle.fin_simp.specs.Numbered.{Here, behind, behind_test, numbered_all}
 use Rattle.fin_simp.specs.Remaining.{is_identity_literal, is_nothing}
-use Rattle.fin_simp.specs.Rest.{ExprRest, Test, Kind, Nothing, OneUpdate, Other, Rest, is_none_kind, no_expr, nothing, within, within_kind, chosen_rest, let_rest, updating_rest, expr_rest, test_rest, rest_step, rest_of, all_rest, written_step, written, all_written}
+use Rattle.fin_simp.specs.Rest.{ExprRest, Test, Kind, Nothing, OneUpdate, Other, Rest, is_none_kind, nothing, within_kind, chosen_rest, let_rest, updating_rest, expr_rest, test_rest, rest_step, rest_of, written_step, written}
 use Rattle.fin_simp.specs.Work.{Context, is_in, inside}
 use Rattle.fin_simp.proofs.Equations.{at_block, at_cond, at_bind, at_declare, at_freeze, at_thaw, at_update}
 use Rattle.fin_simp.proofs.Resting.{rest_agrees}
 use Rattle.fin_perform.specs.Places.{changes, change_all}
-use Rattle.fin_perform.specs.Working.{nothing_in, literal_at, test_at}
+use Rattle.fin_perform.specs.Working.{nothing_in, literal_at}
 
 -- ---- a rest of which something is left
 

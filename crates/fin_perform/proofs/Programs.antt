@@ -58,6 +58,8 @@ module _ (c : Checked) (accepted : IsAccepted c) where
     };
     next_is = refl;
     loose = λ t e. refl;
+    coordinates = λ x e. absurd (let h : false ≡ true = e in cc);
+    unbound = λ x e. absurd (let h : false ≡ true = e in cc);
     may_bind = all_may_bind c (length (unbound c.dims)) 0 (bindings_of_all c.program.body) c.program.numbered enough (length-map c.dims.ranges (λ (r : ℕ × ℕ). pos 0));
   }
 

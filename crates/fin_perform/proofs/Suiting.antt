@@ -1,18 +1,18 @@
 -- Places that suit a statement suit its parts.
-use Rattle.std.proofs.Common.{◌≡◌, ◌≢◌, ℕ, Bool, true, false, ◌&&◌, List, [], ◌∷◌, ◌++◌, map, Some, None, append_assoc, length, length-set, refl, sym, ap, ◌∙◌, subst, ℤ, arith}
+use Rattle.std.proofs.Common.{◌≡◌, ◌≢◌, ℕ, Bool, true, false, ◌&&◌, List, [], ◌∷◌, ◌++◌, map, Some, None, append_assoc, length, length-set, refl, sym, ap, ◌∙◌, subst, ℤ, pos, arith}
 use Rattle.std.specs.Prelude.{not, nat_eq, slice_set}
 use Rattle.std.proofs.lemmas.Bool.{or_left, or_right}
 use Rattle.std.proofs.lemmas.Bool.Decides.{nat_tests}
+use Rattle.std.proofs.lemmas.List.{get_or-set_other}
 use Rattle.std.proofs.lemmas.List.Folds.{list_any-append}
 use Rattle.fin_ast.specs.declared.checked.Checked.{Checked}
 use Rattle.fin_ast.specs.declared.tree.Stmt.{Stmt}
 use Rattle.fin_ast.specs.Bindings.{bindings_of, bindings_of_all}
-use Rattle.fin_ast.specs.Scope.{Scope, within_let}
+use Rattle.fin_ast.specs.Scope.{Scope, is_among, within_let}
 use Rattle.fin_ast.specs.Value.{Numbers}
 use Rattle.fin_nest.specs.Performs.{Place}
-use Rattle.fin_simp.specs.Left.{Marks}
 use Rattle.fin_simp.specs.Numbered.{Here, past_stmt, past_all}
-use Rattle.fin_simp.specs.Rest.{Rest, rest_of, written}
+use Rattle.fin_simp.specs.Rest.{rest_of, written}
 use Rattle.fin_simp.specs.Work.{Context, is_in}
 use Rattle.fin_perform.specs.Inside.{place_inside, InsideStands}
 use Rattle.fin_perform.specs.Places.{Suits, left_of_all, change_all, AllApart, AllMayBind}
@@ -67,6 +67,8 @@ module _ (c : Checked) (next : ℕ) (sc : Scope) (vars : Numbers) (p : Place) wh
     stands = u.stands;
     next_is = u.next_is;
     loose = λ t h. u.loose t (f t h);
+    coordinates = u.coordinates;
+    unbound = u.unbound;
     may_bind = subst (AllMayBind p (length vars)) e u.may_bind;
   }
 
@@ -92,6 +94,8 @@ module _ (c : Checked) (next : ℕ) (sc : Scope) (vars : Numbers) (p : Place) wh
       stands = u.stands;
       next_is = u.next_is;
       loose = λ t e. u.loose t (changed_left t e);
+      coordinates = u.coordinates;
+      unbound = u.unbound;
       may_bind = bind_left p (length vars) (bindings_of_all xs) (bindings_of_all ys) (subst (AllMayBind p (length vars)) (bindings_join xs ys) u.may_bind);
     }
 
@@ -100,6 +104,8 @@ module _ (c : Checked) (next : ℕ) (sc : Scope) (vars : Numbers) (p : Place) wh
       stands = u.stands;
       next_is = u.next_is;
       loose = λ t e. u.loose t (changed_right t e);
+      coordinates = u.coordinates;
+      unbound = u.unbound;
       may_bind = bind_right p (length vars) (bindings_of_all xs) (bindings_of_all ys) (subst (AllMayBind p (length vars)) (bindings_join xs ys) u.may_bind);
     }
 
@@ -137,10 +143,16 @@ module _ (c : Checked) (next : ℕ) (sc : Scope) (vars : Numbers) (p : Place) wh
     pub inside_is : InsideStands c sc vars p (binds_inside var) var z
     inside_is = places_inside c sc vars p (binds_inside var) var z u.stands u.may_bind.0.below u.may_bind.0.counted (own_kept var (nat_eq var var) refl) (fewer_inside var)
 
+    -- the let binds no variable of a loop in scope
+    other_var : (x : ℕ) → is_among sc.loops x ≡ true → x ≢ var
+    other_var x e same = let free = u.unbound x e in let binds = u.may_bind.0.binds in let f = ap p.binds same in cc
+
     pub suits_inside : Suits c next vs ws (within_let sc var) (slice_set vars var z) (place_inside p (binds_inside var) var z)
     suits_inside = record {
       stands = inside_is.in_let;
       next_is = u.next_is;
       loose = u.loose;
+      coordinates = λ x e. let (k, is, low) = u.coordinates x e in (k, get_or-set_other vars var x z (pos 0) (other_var x e) ∙ is, low);
+      unbound = λ x e. fewer_inside var x (u.unbound x e);
       may_bind = bind_inside var z vs u.may_bind.0.apart u.may_bind.1;
     }

@@ -1,9 +1,9 @@
 -- Places that suit a statement: where its code may stand.
-use Rattle.std.specs.Prelude.{◌≡◌, ◌≢◌, ℕ, ◌<◌, Bool, true, false, List, [], ◌∷◌, length, Some, None}
+use Rattle.std.specs.Prelude.{◌≡◌, ◌≢◌, ℕ, ◌<◌, Bool, true, false, List, [], ◌∷◌, length, Some, None, pos, ◌^◌}
 use Rattle.fin_ast.specs.declared.checked.Checked.{Checked}
 use Rattle.fin_ast.specs.declared.tree.Stmt.{Stmt}
-use Rattle.fin_ast.specs.Scope.{Scope}
-use Rattle.fin_ast.specs.Value.{Numbers}
+use Rattle.fin_ast.specs.Scope.{Scope, is_among}
+use Rattle.fin_ast.specs.Value.{Numbers, number}
 use Rattle.fin_nest.specs.Performs.{Place}
 use Rattle.fin_simp.specs.Left.{Marks}
 use Rattle.fin_simp.specs.Numbered.{Here, numbered_all}
@@ -47,10 +47,17 @@ AllMayBind p count (v ∷ vs) = MayBind p count v vs × AllMayBind p count vs
 
 -- ---- places
 
+-- the variable's number is a coordinate
+abbrev pub IsCoordinate : Numbers → ℕ → Type 0
+IsCoordinate vars x = (k : ℕ) × (number vars x ≡ pos k) × (k < 2 ^ 40)
+
 -- The place is in the scope, with these numbers and this first free local. It takes none of the changed tensors for one
--- that stays as it is, and none of the bound variables for one that the code doesn't bind.
+-- that stays as it is, and none of the bound variables for one that the code doesn't bind. The variables of loops
+-- in scope have coordinates for their numbers, and the code doesn't bind them again.
 pub record Suits (c : Checked) (next : ℕ) (bound : List ℕ) (written : ℕ → Bool) (sc : Scope) (vars : Numbers) (p : Place) : Type 0 where
   pub stands : StandsIn c sc vars p
   pub next_is : p.next ≡ next
   pub loose : (t : ℕ) → written t ≡ true → p.steady t ≡ false
+  pub coordinates : (x : ℕ) → is_among sc.loops x ≡ true → IsCoordinate vars x
+  pub unbound : (x : ℕ) → is_among sc.loops x ≡ true → p.binds x ≡ false
   pub may_bind : AllMayBind p (length vars) bound
