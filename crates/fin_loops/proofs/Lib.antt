@@ -1,0 +1,13 @@
+pub mod Rests
+pub mod Standing
+pub mod Known
+pub mod Points
+pub mod Advancing
+pub mod Placing
+pub mod Entering
+pub mod Chunks
+pub mod Opening
+pub mod Parallel
+pub mod Keeping
+pub mod Sparing
+pub mod Told

@@ -1,0 +1,65 @@
+//! What is proved of the code of loops.
+ghost use Rattle.fin_loops.specs.Chunks.{LoopsInChunks, OpenedStand};
+ghost use Rattle.fin_loops.specs.Entering.{LoopsMean};
+ghost use Rattle.fin_loops.specs.Keeping.{NestsAreSeparate};
+ghost use Rattle.fin_loops.specs.Parallel.{ParallelLoopsMean};
+ghost use Rattle.fin_loops.specs.Points.{PointsMean, LoopsGoOn};
+ghost use Rattle.fin_loops.specs.Sparing.{CodesSpare};
+ghost use Rattle.fin_loops.specs.Told.{NestsTold};
+
+use fin_simp::masks_compare;
+
+/// Codes that mean a loop's body under what is known at a point, behind the charge and the coordinate, mean the nest that
+/// has come to that point, whatever the loop is in a run.
+pub fn points_mean()
+    ensures { PointsMean }
+{}
+
+/// What stands behind the nests of a loop goes on where a machine was cut, and is the same, where a part begins, whether
+/// its reads vary.
+pub fn loops_go_on()
+    ensures { LoopsGoOn }
+{}
+
+/// The codes of a loop's entry, and behind them code that means its nest whatever the loop is in a run, mean the loop, in a
+/// piece and outside all loops.
+pub fn loops_mean()
+    ensures { LoopsMean }
+{
+    masks_compare();
+}
+
+/// A parallel loop does, one after another along the chunks that its code has, what it does along all of its coordinates.
+pub fn loops_in_chunks()
+    ensures { LoopsInChunks }
+{}
+
+/// A machine that begins a chunk, with the chunk's locals and without the tensors that the loop's body declares, stands for
+/// the run that it stood for, where the run has none of these.
+pub fn opened_stand()
+    ensures { OpenedStand }
+{}
+
+/// The codes of a parallel loop's entry, and behind them code that means its nest, chunk by chunk, mean the parallel loop.
+pub fn parallel_loops_mean()
+    ensures { ParallelLoopsMean }
+{
+    masks_compare();
+}
+
+/// A nest whose looplets keep apart, own locals of their own and depend on outer ones alone is separate wherever its loop
+/// may stand.
+pub fn nests_are_separate()
+    ensures { NestsAreSeparate }
+{}
+
+/// Codes in which no code assigns a local or changes a tensor that is to stay leave these as they are, in any machine.
+pub fn codes_spare()
+    ensures { CodesSpare }
+{}
+
+/// Along runs and lookups it is seen where the code is made whether nothing is left of a loop's body, and whether a nest may
+/// be stepped.
+pub fn nests_told()
+    ensures { NestsTold }
+{}
