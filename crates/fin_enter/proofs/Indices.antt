@@ -156,7 +156,7 @@ holds_by P i later d p h false true e =
     subst (λ (z : ℕ × Index). P z.1 ≡ true) same p
 holds_by P i later d p h false false e = cc
 
-driven_holds : (P : Index → Bool) (var : ℕ) (is : List Index) (d : ℕ × Index) → list_all P is ≡ true → driven_index var is ≡ Some d → P d.1 ≡ true
+pub driven_holds : (P : Index → Bool) (var : ℕ) (is : List Index) (d : ℕ × Index) → list_all P is ≡ true → driven_index var is ≡ Some d → P d.1 ≡ true
 driven_holds P var [] d all e = cc
 driven_holds P var (i ∷ is) d all e =
     holds_by P i (driven_index var is) d (left (P i) (list_all P is) all) (λ x. driven_holds P var is x (right (P i) (list_all P is) all))

@@ -11,3 +11,8 @@ pub mod Parallel
 pub mod Keeping
 pub mod Sparing
 pub mod Told
+pub mod TopsBounds
+pub mod TopsLooplets
+pub mod Tops
+pub mod TopsJumpless
+pub mod TopsNamed

@@ -6,3 +6,4 @@ pub mod Parallel
 pub mod Keeping
 pub mod Sparing
 pub mod Told
+pub mod Tops

@@ -6,6 +6,7 @@ ghost use Rattle.fin_loops.specs.Parallel.{ParallelLoopsMean};
 ghost use Rattle.fin_loops.specs.Points.{PointsMean, LoopsGoOn};
 ghost use Rattle.fin_loops.specs.Sparing.{CodesSpare};
 ghost use Rattle.fin_loops.specs.Told.{NestsTold};
+ghost use Rattle.fin_loops.specs.Tops.{TopsAreSeparate, TopsHoldNoJumpers, TopsKeepOut};
 
 use fin_simp::masks_compare;
 
@@ -62,4 +63,20 @@ pub fn codes_spare()
 /// be stepped.
 pub fn nests_told()
     ensures { NestsTold }
+{}
+
+/// The nest of a loop as its entry makes it keeps out of what is around the loop, where variables are numbered in the order
+/// in which they are bound and no index of a read that remains names one twice.
+pub fn tops_keep_out()
+    ensures { TopsKeepOut }
+{}
+
+/// The looplets of a loop's entry hold no jumpers.
+pub fn tops_hold_no_jumpers()
+    ensures { TopsHoldNoJumpers }
+{}
+
+/// The nest of a loop as its entry makes it is separate wherever the loop may stand.
+pub fn tops_are_separate()
+    ensures { TopsAreSeparate }
 {}

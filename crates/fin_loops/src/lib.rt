@@ -11,12 +11,14 @@
 //! codes of an entry behind which the nest is made for the loop, with the code of the nest, mean the loop
 //! (`specs/Entering.antt`), and by `parallel_loops_mean` they do for a parallel loop chunk by chunk
 //! (`specs/Parallel.antt`, `specs/Chunks.antt`). `nests_are_separate` and `codes_spare` say what these ask of nests and
-//! codes in words that are seen where the code is made (`specs/Keeping.antt`, `specs/Sparing.antt`).
+//! codes in words that are seen where the code is made (`specs/Keeping.antt`, `specs/Sparing.antt`). The nest that an entry
+//! makes meets them (`tops_keep_out`, `tops_are_separate`, `tops_hold_no_jumpers`: `specs/Tops.antt`).
 #![tactic(auto)]
 
 mod laws;
 
 pub use laws::{
     codes_spare, loops_go_on, loops_in_chunks, loops_mean, nests_are_separate, nests_told,
-    opened_stand, parallel_loops_mean, points_mean,
+    opened_stand, parallel_loops_mean, points_mean, tops_are_separate, tops_hold_no_jumpers,
+    tops_keep_out,
 };
