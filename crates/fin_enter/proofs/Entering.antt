@@ -37,7 +37,7 @@ use Rattle.fin_enter.proofs.Charges.{lengths_mean}
 use Rattle.fin_enter.proofs.Indices.{indices_are_bound}
 use Rattle.fin_enter.proofs.Sites.{driven_within, stored_reads_are_found}
 use Rattle.fin_enter.proofs.Together.{place_grows, places_grow, all_positions_are_found}
-use Rattle.fin_enter.proofs.Masked.{bounds_grow as bounds_after, masks_are_tests, all_bounds_mean}
+use Rattle.fin_enter.proofs.Masked.{bounds_grow as bounds_after, masks_are_tests, numbers_kept, all_bounds_mean}
 
 pub cursor_grows : (o : Option (ℕ × Index)) (cursor : ℕ) → cursor ≤ behind_cursor o cursor
 cursor_grows None cursor = omega arith
@@ -201,8 +201,8 @@ module _ (mean : BoundsMean) (h : Heads) (sc : Scope) (e : Entry) (next : ℕ) (
   abbrev end : List ℤ
   end = stepped e.store (bound_steps h (tests_in e) (bounds_from h e next)) middle
 
-  var_below : e.loop.loop.var ≤ next
-  var_below = omega (arith, can.bound, can.after)
+  abbrev var_below : e.loop.loop.var ≤ next
+  var_below = can.after
 
   around_after : (ks : List ℤ) → Agree next ks e.locals → AreAround sc e.loop.loop.var e.loop.vars ks
   around_after ks same x among lt = let q = can.around x among lt in (q.0, q.1, same x (omega (arith, lt, var_below)) ∙ q.2, q.3)
@@ -217,8 +217,8 @@ module _ (mean : BoundsMean) (h : Heads) (sc : Scope) (e : Entry) (next : ℕ) (
       let bounds_end = behind_bounds h (tests_in e) begin in
       let placed = all_positions_are_found e.store whole (λ tensor. parts_at e.world e.run tensor) sc vars reads next e.locals can.around var_below (all_stand h sc e reads can.reads)
       (omega (arith, can.room, tail, bounds_after h (tests_in e) begin)) in
-      let near : Agree (length vars) middle vars = agree_then (length vars) middle e.locals vars (agree_less (length vars) next middle e.locals can.after placed.kept) can.agree in
-      let bounded = all_bounds_mean mean e.store h sc vars e.loop.loop.var (tests_in e) begin middle can.within can.tests
+      let near = numbers_kept sc e.loop.loop.var vars next e.locals middle can.after placed.kept can.numbers in
+      let bounded = all_bounds_mean mean e.store h sc vars e.loop.loop.var (tests_in e) begin middle can.tests
       (omega (arith, can.after, grown)) near (omega (arith, can.room, tail, placed.long)) in
       let same_steps = stepped_append e.store (all_positions whole reads next) (bound_steps h (tests_in e) begin) e.locals in
       let back_to_middle : Agree next end middle = agree_less next begin end middle (omega (arith, grown)) bounded.kept in

@@ -67,8 +67,8 @@ entries_are_known h e is =
     ap (λ (ms : List Mask). length ms) (is.masks ∙ masks_are_tests e.loop.vars loop.var e.rest.tests) ∙ length-map (tested_among loop.var e.rest.tests) (as_mask e.loop.vars) in
     omega (arith, reads, tests)
 
-module _ (h : Heads) (e : Entry) (next : ℕ) (n : Nest Run) (layout : Layout) (s : Start) (pins : List ℤ) (m : Machine)
-    (enters : Enters h e next n) (at : IsEnteredAt e s pins m) (le : length pins ≤ next) where
+module _ (h : Heads) (e : Entry) (next : ℕ) (n : Nest Run) (layout : Layout) (s : Start) (pins : List ℤ) (r : Run) (m : Machine)
+    (enters : Enters h e next n) (at : IsEnteredAt e s pins r m) (le : length pins ≤ next) where
   abbrev ks : List ℤ
   ks = (entered_by h e next).locals
 
@@ -91,10 +91,10 @@ module _ (h : Heads) (e : Entry) (next : ℕ) (n : Nest Run) (layout : Layout) (
     total = enters.lengths.total ∙ ap (λ (ds : List Driven). sum (map length_of ds)) (sym at.entered.driven);
   }
 
-  live_placed : Live s pins e.run placed
-  live_placed = live_with s pins e.run m ks next at.live (enters.long ∙ ap length at.locals) (subst (Agree next ks) at.locals enters.kept) le
+  live_placed : Live s pins r placed
+  live_placed = live_with s pins r m ks next at.live (enters.long ∙ ap length at.locals) (subst (Agree next ks) at.locals enters.kept) le
 
-  runs_entry : RunsEntry h e next layout s pins m
+  runs_entry : RunsEntry h e next layout s pins r m
   runs_entry =
       let known = known_by (around_in h e) e.rest e.loop.loop.chunks in
       let charge = entry_codes (known_of e.loop.loop) lengths in
@@ -105,10 +105,10 @@ module _ (h : Heads) (e : Entry) (next : ℕ) (n : Nest Run) (layout : Layout) (
       ∙ ap (meaning_all layout charge) steps_are in
       record {
         runs = same ∙ pays.charges at.live.cut;
-        related = subst (Related s pins (worked (entry_of e.loop.loop) e.run)) (sym same) (pays.related s pins e.run (inl live_placed));
+        related = subst (Related s pins (worked (entry_of e.loop.loop) r)) (sym same) (pays.related s pins r (inl live_placed));
       }
 
 pub entry_codes_enter : BoundsMean → EntryCodesEnter
-entry_codes_enter mean h sc e next n layout s pins m can nest at le =
+entry_codes_enter mean h sc e next n layout s pins r m can nest at le =
     let enters = entries_are_entrances mean h sc e next n can nest in
-    (enters, runs_entry h e next n layout s pins m enters at le)
+    (enters, runs_entry h e next n layout s pins r m enters at le)

@@ -7,11 +7,10 @@ use Rattle.fin_ast.specs.Value.{Numbers}
 use Rattle.fin_looplet.specs.View.{Store}
 use Rattle.fin_read.specs.Steps.{stepped, Agree}
 use Rattle.fin_read.specs.Values.{Heads, value_code}
-use Rattle.fin_read.specs.Means.{IsWithin}
 use Rattle.fin_read.proofs.Equations.{code_grows}
 use Rattle.fin_read.proofs.Stepping.{agree_refl, agree_then, agree_less, stepped_append}
 use Rattle.fin_simp.specs.Work.{Mask, is_comparison, is_var, is_bound_of, mask_by, and_mask, masks_among}
-use Rattle.fin_enter.specs.Bounds.{BoundsMean}
+use Rattle.fin_enter.specs.Bounds.{HaveNumbers, BoundsMean}
 use Rattle.fin_enter.specs.Masked.{Tested, tested, tested_by, tested_in, and_tested, tested_among, as_mask, MasksAreTests, bound_steps, behind_bounds, AllCanBound, AreBounded, AllBoundsMean}
 
 -- ---- masks
@@ -51,19 +50,23 @@ pub bounds_grow : (h : Heads) (tests : List Tested) (next : ℕ) → next ≤ be
 bounds_grow h [] next = omega arith
 bounds_grow h (t ∷ tests) next = omega (arith, code_grows h t.bound next, bounds_grow h tests (value_code h t.bound next).next)
 
+-- they are kept where the locals before one behind the loop's variable are
+pub numbers_kept : (sc : Scope) (var : ℕ) (vars : Numbers) (next : ℕ) (ls ks : List ℤ) → var ≤ next → Agree next ks ls → HaveNumbers sc var vars ls → HaveNumbers sc var vars ks
+numbers_kept sc var vars next ls ks le same numbers x bound lt = same x (omega (arith, le, lt)) ∙ numbers x bound lt
+
 module _ (mean : BoundsMean) (ts : Store) (h : Heads) (sc : Scope) (vars : Numbers) (var : ℕ) where
-  all_bounded : (tests : List Tested) (next : ℕ) (ls : List ℤ) → IsWithin sc (length vars) → AllCanBound sc var tests → length vars ≤ next → Agree (length vars) ls vars
+  all_bounded : (tests : List Tested) (next : ℕ) (ls : List ℤ) → AllCanBound sc var tests → var ≤ next → HaveNumbers sc var vars ls
       → behind_bounds h tests next + 1 ≤ length ls → AreBounded ts h vars tests next ls
-  all_bounded [] next ls within can after agree room = record { long = refl; kept = agree_refl next ls; grows = omega arith; found = λ ks same. tt }
-  all_bounded (t ∷ tests) next ls within can after agree room =
+  all_bounded [] next ls can after numbers room = record { long = refl; kept = agree_refl next ls; grows = omega arith; found = λ ks same. tt }
+  all_bounded (t ∷ tests) next ls can after numbers room =
       let v = value_code h t.bound next in
       let own = v.steps in
       let others = bound_steps h tests v.next in
       let last = bounds_grow h tests v.next in
-      let one = mean h ts sc vars var t.bound next ls within can.0.named can.0.bound after agree (omega (arith, room, last)) in
+      let one = mean h ts sc vars var t.bound next ls can.0.named can.0.bound after numbers (omega (arith, room, last)) in
       let middle = stepped ts own ls in
-      let near = agree_then (length vars) middle ls vars (agree_less (length vars) next middle ls after one.kept) agree in
-      let q = all_bounded tests v.next middle within can.1 (omega (arith, after, one.grows)) near (omega (arith, room, one.long)) in
+      let near = numbers_kept sc var vars next ls middle after one.kept numbers in
+      let q = all_bounded tests v.next middle can.1 (omega (arith, after, one.grows)) near (omega (arith, room, one.long)) in
       let same_steps = stepped_append ts own others ls in
       let end = stepped ts others middle in
       record {
@@ -77,4 +80,4 @@ module _ (mean : BoundsMean) (ts : Store) (h : Heads) (sc : Scope) (vars : Numbe
       }
 
 pub all_bounds_mean : BoundsMean → AllBoundsMean
-all_bounds_mean mean ts h sc vars var tests next ls within can after agree room = all_bounded mean ts h sc vars var tests next ls within can after agree room
+all_bounds_mean mean ts h sc vars var tests next ls can after numbers room = all_bounded mean ts h sc vars var tests next ls can after numbers room

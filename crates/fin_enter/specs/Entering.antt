@@ -11,7 +11,6 @@ use Rattle.fin_looplet.specs.declared.looplet.Looplet.{Looplet}
 use Rattle.fin_looplet.specs.View.{value}
 use Rattle.fin_read.specs.Steps.{Step, stepped, Agree}
 use Rattle.fin_read.specs.Values.{Heads, format_of, shape_of}
-use Rattle.fin_read.specs.Means.{IsWithin}
 use Rattle.fin_nest.specs.Nests.{Nest}
 use Rattle.fin_simp.specs.Rest.{Access}
 use Rattle.fin_simp.specs.Sights.{driven_index}
@@ -20,6 +19,7 @@ use Rattle.fin_simp.specs.Work.{Driven, is_in, driven_by, length_of}
 use Rattle.fin_drive.specs.Turns.{seen_turn}
 use Rattle.fin_drive.specs.Watches.{watched}
 use Rattle.fin_drive.specs.Entries.{Entry, watches}
+use Rattle.fin_enter.specs.Bounds.{HaveNumbers}
 use Rattle.fin_enter.specs.Stores.{HasFormat, IsStoredAs}
 use Rattle.fin_enter.specs.Indices.{AreAround, small_offsets}
 use Rattle.fin_enter.specs.Together.{Around}
@@ -74,14 +74,14 @@ abbrev pub AllCanDrive : Heads → Scope → Entry → List Access → Type 0
 AllCanDrive h sc e [] = Unit {0}
 AllCanDrive h sc e (a ∷ reads) = ((d : ℕ × Index) → driven_index e.loop.loop.var a.at ≡ Some d → CanDrive h sc e a) × AllCanDrive h sc e reads
 
+-- of the locals before the first free one it asks only those of variables that are in scope
 pub record CanEnter (h : Heads) (sc : Scope) (e : Entry) (next : ℕ) : Type 0 where
   pub bound : e.loop.loop.var < length e.loop.vars
   pub ordered : (range_of e.world.setting e.loop.loop.var).0 ≤ (range_of e.world.setting e.loop.loop.var).1
   pub small : (range_of e.world.setting e.loop.loop.var).1 ≤ 2 ^ 40
-  pub within : IsWithin sc (length e.loop.vars)
   pub around : AreAround sc e.loop.loop.var e.loop.vars e.locals
-  pub after : length e.loop.vars ≤ next
-  pub agree : Agree (length e.loop.vars) e.locals e.loop.vars
+  pub after : e.loop.loop.var ≤ next
+  pub numbers : HaveNumbers sc e.loop.loop.var e.loop.vars e.locals
   pub room : behind_entry h e next ≤ length e.locals
   pub reads : AllCanDrive h sc e e.rest.reads
   pub tests : AllCanBound sc e.loop.loop.var (tests_in e)

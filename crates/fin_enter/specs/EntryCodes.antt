@@ -29,19 +29,20 @@ entry_code h e next = code_by (around_in h e) e.rest e.loop.loop.chunks next
 abbrev pub EntriesAreKnown : Type 0
 EntriesAreKnown = (h : Heads) (e : Entry) → IsEntered e → known_of e.loop.loop ≡ known_by (around_in h e) e.rest e.loop.loop.chunks
 
--- the loop is entered in a run that a machine does
-pub record IsEnteredAt (e : Entry) (s : Start) (pins : List ℤ) (m : Machine) : Type 0 where
+-- The loop is entered where a machine stands; that does a run, be it the one in which the loop is entered or one that
+-- does the same.
+pub record IsEnteredAt (e : Entry) (s : Start) (pins : List ℤ) (r : Run) (m : Machine) : Type 0 where
   pub entered : IsEntered e
   pub store : e.store ≡ seen m
   pub locals : e.locals ≡ m.locals
-  pub live : Live s pins e.run m
+  pub live : Live s pins r m
 
 -- the machine has the locals of the entry and has paid for it, nothing else is done, and it does what the run does
-pub record RunsEntry (h : Heads) (e : Entry) (next : ℕ) (layout : Layout) (s : Start) (pins : List ℤ) (m : Machine) : Type 0 where
+pub record RunsEntry (h : Heads) (e : Entry) (next : ℕ) (layout : Layout) (s : Start) (pins : List ℤ) (r : Run) (m : Machine) : Type 0 where
   pub runs : meaning_all layout (entry_code h e next) m ≡ record m { locals = (entered_by h e next).locals; charges = m.charges + entry_of e.loop.loop }
-  pub related : Related s pins (worked (entry_of e.loop.loop) e.run) (meaning_all layout (entry_code h e next) m)
+  pub related : Related s pins (worked (entry_of e.loop.loop) r) (meaning_all layout (entry_code h e next) m)
 
 abbrev pub EntryCodesEnter : Type 0
-EntryCodesEnter = (h : Heads) (sc : Scope) (e : Entry) (next : ℕ) (n : Nest Run) (layout : Layout) (s : Start) (pins : List ℤ) (m : Machine)
-    → CanEnter h sc e next → IsNestOf h e next n → IsEnteredAt e s pins m → length pins ≤ next
-    → Enters h e next n × RunsEntry h e next layout s pins m
+EntryCodesEnter = (h : Heads) (sc : Scope) (e : Entry) (next : ℕ) (n : Nest Run) (layout : Layout) (s : Start) (pins : List ℤ) (r : Run) (m : Machine)
+    → CanEnter h sc e next → IsNestOf h e next n → IsEnteredAt e s pins r m → length pins ≤ next
+    → Enters h e next n × RunsEntry h e next layout s pins r m

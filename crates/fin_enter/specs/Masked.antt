@@ -9,9 +9,9 @@ use Rattle.fin_ast.specs.Value.{Numbers, value_of}
 use Rattle.fin_looplet.specs.View.{Store, value}
 use Rattle.fin_read.specs.Steps.{Step, stepped, Agree}
 use Rattle.fin_read.specs.Values.{Heads, value_code}
-use Rattle.fin_read.specs.Means.{IsWithin}
 use Rattle.fin_simp.specs.Rest.{Test}
 use Rattle.fin_simp.specs.Work.{Mask, is_comparison, is_var, is_bound_of, masks_among}
+use Rattle.fin_enter.specs.Bounds.{HaveNumbers}
 
 -- a test that compares a loop's variable with a bound
 pub record Tested : Type 0 where
@@ -83,5 +83,5 @@ pub record AreBounded (ts : Store) (h : Heads) (vars : Numbers) (tests : List Te
 
 abbrev pub AllBoundsMean : Type 0
 AllBoundsMean = (ts : Store) (h : Heads) (sc : Scope) (vars : Numbers) (var : ℕ) (tests : List Tested) (next : ℕ) (ls : List ℤ)
-    → IsWithin sc (length vars) → AllCanBound sc var tests → length vars ≤ next → Agree (length vars) ls vars → behind_bounds h tests next + 1 ≤ length ls
+    → AllCanBound sc var tests → var ≤ next → HaveNumbers sc var vars ls → behind_bounds h tests next + 1 ≤ length ls
     → AreBounded ts h vars tests next ls
