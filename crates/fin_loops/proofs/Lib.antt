@@ -3,6 +3,7 @@ pub mod Standing
 pub mod Known
 pub mod Points
 pub mod Advancing
+pub mod Turning
 pub mod Placing
 pub mod Entering
 pub mod Chunks
@@ -16,3 +17,6 @@ pub mod TopsLooplets
 pub mod Tops
 pub mod TopsJumpless
 pub mod TopsNamed
+pub mod Named
+pub mod Entries
+pub mod Sourced

@@ -14,18 +14,15 @@ use Rattle.fin_ir.specs.declared.layout.Layout.{Layout}
 use Rattle.fin_ir.specs.Machine.{Machine, seen}
 use Rattle.fin_ir.specs.Meaning.{meaning_all}
 use Rattle.fin_looplet.specs.View.{value}
-use Rattle.fin_stage.specs.Staged.{Run, regular, worked, asked_to_read}
-use Rattle.fin_stage.proofs.Alive.{left}
+use Rattle.fin_stage.specs.Staged.{Run, regular, worked}
 use Rattle.fin_nest.specs.Related.{Start}
 use Rattle.fin_nest.specs.Nests.{Nest, Bounds, AllSoundIn, Fits}
 use Rattle.fin_nest.specs.Senses.{runs, Advances}
 use Rattle.fin_nest.specs.Courses.{Meant}
 use Rattle.fin_nest.specs.Performs.{Place, Ready, Left}
-use Rattle.fin_simp.specs.Work.{World, Worked, work_step, all_fresh, rests_in, can_be_entered, asked_to_enter, inside, entry_of, done}
+use Rattle.fin_simp.specs.Work.{World, Worked, all_fresh, rests_in, can_be_entered, inside, entry_of, done}
 use Rattle.fin_simp.specs.Costs.{Running, MasksCompare}
 use Rattle.fin_simp.specs.Moving.{worked_all, running}
-use Rattle.fin_simp.proofs.Equations.{at_loop}
-use Rattle.fin_simp.proofs.GoingOn.{loops_are_enterable}
 use Rattle.fin_drive.specs.Entries.{Entry, IsMade}
 use Rattle.fin_drive.specs.Watches.{part_of}
 use Rattle.fin_drive.proofs.Made.{made_nests_are_loops}
@@ -35,11 +32,9 @@ use Rattle.fin_descend.specs.Promises.{Stands}
 use Rattle.fin_perform.specs.Layouts.{layout_with, start_with}
 use Rattle.fin_perform.specs.Places.{AllMayBind, changes}
 use Rattle.fin_perform.specs.Working.{run_of}
-use Rattle.fin_perform.proofs.Composing.{advances_still, advances_then}
-use Rattle.fin_perform.proofs.Working.{run_left}
 use Rattle.fin_loops.specs.Loops.{Loop, bound_in, behind_of, AreOnce, InScope, OfLoop}
 use Rattle.fin_loops.specs.Entering.{IsNested, SparesAll, stmt_of, Spot, StandsAt, world_at, nest_at}
-use Rattle.fin_loops.proofs.Advancing.{advances_worked, parts_advance}
+use Rattle.fin_loops.proofs.Turning as turning
 use Rattle.fin_loops.proofs.Points.{loops_go_on}
 
 -- ---- the variables that a place lets be bound
@@ -95,11 +90,6 @@ made_fits compare l top q layout e m live long numbers made =
           (subst (λ (z : ℤ). AllSoundIn (seen m) m.locals nest.reads (pos e.from) z) (sym made.hi) (made_nests_are_loops compare (record e { store = seen m; locals = m.locals }) nest made).sound);
     }
 
--- what is asked takes back no work
-asked_advances : (b : Bool) (r : Run) → Advances r (asked_to_read b r)
-asked_advances true r = advances_still r
-asked_advances false r = record { before = λ e. absurd (let h = left (false && r.small) r.ordered e in cc); work = omega arith }
-
 module _ (l : Loop) (range : Option (ℕ × ℕ)) (par : Bool) (line last next need : ℕ) (top : point.Nest) (code : Lowered)
     (low : IsNested l (stmt_of l range par line last) next need top code) (q : Spot) (le : need ≤ q.room)
     (at : StandsAt l (stmt_of l range par line last) next q) where
@@ -132,31 +122,19 @@ module _ (l : Loop) (range : Option (ℕ × ℕ)) (par : Bool) (line last next n
   all_turns r = part_of (entering r) (entering r).loop.lo (entering r).loop.len
 
   pub loop_is : (r : Run) → does_loop r ≡ done w l.here (Stmt-F.Loop l.var range par body line last) l.context q.vars r
-  loop_is r = run_left w x l.here (Stmt-F.Loop l.var range par body line last) (at_loop Worked (work_step w) l.var range par l.body line last l.here) q.vars r l.context low.some
-
-  -- behind what its entry asks, which is there in a regular run
-  abbrev pub asked : Run → Run
-  asked r = asked_to_enter w (inside l.context l.var None) par body r
-
-  asked_turns : (r : Run) → does_loop r ≡ all_turns r (worked (entry_of (entering r).loop) (asked r))
-  asked_turns r = loop_is r
+  loop_is = turning.loop_is l range par line last low.some q
 
   pub can_enter : (r : Run) → regular (does_loop r) ≡ true → can_be_entered w par (all_fresh body) (rests_in (inside l.context l.var None) body) r ≡ true
-  can_enter r fine = loops_are_enterable w l.here l.context l.var range par l.body line last q.vars r (ap regular (sym (loop_is r)) ∙ fine)
+  can_enter = turning.can_enter l range par line last low.some q
 
   pub turns_are : (r : Run) → regular (does_loop r) ≡ true → does_loop r ≡ all_turns r (worked (entry_of (entering r).loop) r)
-  turns_are r fine = asked_turns r ∙ ap (λ (b : Bool). all_turns r (worked (entry_of (entering r).loop) (asked_to_read b r))) (can_enter r fine)
+  turns_are = turning.turns_are l range par line last low.some q
 
   pub turns_advance : (r k : Run) → Advances k (all_turns r k)
-  turns_advance r k = parts_advance w l.context l.var par l.body l.here q.vars r (entering r).loop.lo (entering r).loop.len k
+  turns_advance = turning.turns_advance l range par line last low.some q
 
   pub loop_advances : (r : Run) → Advances r (does_loop r)
-  loop_advances r =
-      let begun : Run = asked r in
-      let paid : Run = worked (entry_of (entering r).loop) begun in
-      subst (Advances r) (sym (asked_turns r))
-      (advances_then r begun (all_turns r paid) (asked_advances (can_be_entered w par (all_fresh body) (rests_in (inside l.context l.var None) body) r) r)
-      (advances_then begun paid (all_turns r paid) (advances_worked (entry_of (entering r).loop) begun) (turns_advance r paid)))
+  loop_advances = turning.loop_advances l range par line last low.some q
 
   -- ---- the loop is one of its family
 

@@ -7,3 +7,4 @@ pub mod Keeping
 pub mod Sparing
 pub mod Told
 pub mod Tops
+pub mod Sourced

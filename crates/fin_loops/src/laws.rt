@@ -4,6 +4,7 @@ ghost use Rattle.fin_loops.specs.Entering.{LoopsMean};
 ghost use Rattle.fin_loops.specs.Keeping.{NestsAreSeparate};
 ghost use Rattle.fin_loops.specs.Parallel.{ParallelLoopsMean};
 ghost use Rattle.fin_loops.specs.Points.{PointsMean, LoopsGoOn};
+ghost use Rattle.fin_loops.specs.Sourced.{EntriesEnter};
 ghost use Rattle.fin_loops.specs.Sparing.{CodesSpare};
 ghost use Rattle.fin_loops.specs.Told.{NestsTold};
 ghost use Rattle.fin_loops.specs.Tops.{TopsAreSeparate, TopsHoldNoJumpers, TopsKeepOut};
@@ -79,4 +80,10 @@ pub fn tops_hold_no_jumpers()
 /// The nest of a loop as its entry makes it is separate wherever the loop may stand.
 pub fn tops_are_separate()
     ensures { TopsAreSeparate }
+{}
+
+/// The codes of a loop's entry enter it wherever it may stand: they leave the place as it was, pay for the entry, and the
+/// nest with the looplets of the loop's reads and masks is one that is made for it.
+pub fn entries_enter()
+    ensures { EntriesEnter }
 {}

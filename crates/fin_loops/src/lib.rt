@@ -12,13 +12,14 @@
 //! (`specs/Entering.antt`), and by `parallel_loops_mean` they do for a parallel loop chunk by chunk
 //! (`specs/Parallel.antt`, `specs/Chunks.antt`). `nests_are_separate` and `codes_spare` say what these ask of nests and
 //! codes in words that are seen where the code is made (`specs/Keeping.antt`, `specs/Sparing.antt`). The nest that an entry
-//! makes meets them (`tops_keep_out`, `tops_are_separate`, `tops_hold_no_jumpers`: `specs/Tops.antt`).
+//! makes meets them (`tops_keep_out`, `tops_are_separate`, `tops_hold_no_jumpers`: `specs/Tops.antt`), and the codes of the
+//! entry enter the loop wherever it stands (`entries_enter`: `specs/Sourced.antt`).
 #![tactic(auto)]
 
 mod laws;
 
 pub use laws::{
-    codes_spare, loops_go_on, loops_in_chunks, loops_mean, nests_are_separate, nests_told,
-    opened_stand, parallel_loops_mean, points_mean, tops_are_separate, tops_hold_no_jumpers,
-    tops_keep_out,
+    codes_spare, entries_enter, loops_go_on, loops_in_chunks, loops_mean, nests_are_separate,
+    nests_told, opened_stand, parallel_loops_mean, points_mean, tops_are_separate,
+    tops_hold_no_jumpers, tops_keep_out,
 };
