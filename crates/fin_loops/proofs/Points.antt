@@ -1,24 +1,23 @@
 -- The codes of a loop's body at a point mean the nest that has come there.
-use Rattle.std.proofs.Common.{◌≡◌, ◌≢◌, ℕ, ◌<◌, ◌≤◌, Bool, true, false, ◌&&◌, List, [], ◌∷◌, Some, if◌then◌else◌, refl, sym, ap, ◌∙◌, subst, ℤ, pos, negsuc, ◌+ℤ◌, ◌≤ℤ◌, ◌^◌, w64, SFits, arith}
+use Rattle.std.proofs.Common.{◌≡◌, ℕ, ◌<◌, ◌≤◌, Bool, true, false, ◌&&◌, List, [], ◌∷◌, Some, if◌then◌else◌, refl, sym, ap, ◌∙◌, subst, ℤ, pos, negsuc, ◌+ℤ◌, ◌≤ℤ◌, ◌^◌, w64, SFits, arith}
 use Rattle.std.specs.Prelude.{nat_eq, nat_lt, not, slice_set}
 use Rattle.std.specs.List.{list_all}
 use Rattle.std.proofs.lemmas.Bool.Decides.{nat_tests}
 use Rattle.std.proofs.lemmas.Int.{int_wrap_fits}
-use Rattle.std.proofs.lemmas.List.{get_or-set_same, get_or-set_other}
 use borrow.Author.Differences.{sum_is_lem, le_out, fits_in}
 use Rattle.fin_base.specs.declared.terms.Op.TheVariants as op
 use Rattle.fin_base.specs.Words.{operate}
 use Rattle.fin_tensor.specs.declared.storage.Storage.{Storage}
-use Rattle.fin_ast.specs.Scope.{Scope, is_bound, within_loop}
+use Rattle.fin_ast.specs.Scope.{Scope, within_loop}
 use Rattle.fin_ast.specs.Value.{Numbers, number}
 use Rattle.fin_ir.specs.declared.code.Code.{Code}
 use Rattle.fin_ir.specs.declared.expression.IExpr.{IExpr}
-use Rattle.fin_ir.specs.declared.expression.IExpr.TheVariants.{Num, Local}
+use Rattle.fin_ir.specs.declared.expression.IExpr.TheVariants.{Num}
 use Rattle.fin_ir.specs.declared.layout.Layout.{Layout}
 use Rattle.fin_ir.specs.Machine.{Machine, seen, count_turn}
 use Rattle.fin_ir.specs.Meaning.{meaning, span}
 use Rattle.fin_ir.proofs.Loops.{span_is}
-use Rattle.fin_ir.proofs.Values.{value_num, value_local, value_two}
+use Rattle.fin_ir.proofs.Values.{value_num, value_two}
 use Rattle.fin_stage.specs.Staged.{Run, worked}
 use Rattle.fin_looplet.specs.Cut.{plus}
 use Rattle.fin_looplet.specs.View.{Store, value, Seen}
@@ -51,7 +50,7 @@ use Rattle.fin_loops.specs.Loops.{Loop, watching, behind_of, InScope, OfLoop}
 use Rattle.fin_loops.specs.Points.{marks_at_point, AtPoint, point_code, ChangesNoMore, PointsMean, LoopsGoOn}
 use Rattle.fin_loops.proofs.Known.{runs_flat, runs_hold_none, marks_flat}
 use Rattle.fin_loops.proofs.Rests.{none_are}
-use Rattle.fin_loops.proofs.Standing.{world, whole, pinned, pin_kept, within, within_suits, facts_hold, all_bound, bound_is}
+use Rattle.fin_loops.proofs.Standing.{world, whole, pinned, within, within_suits, within_facts}
 
 -- ---- the body at a point, where something is left of it: a turn and the body
 
@@ -229,21 +228,11 @@ module _ (l : Loop) (n : point.Nest) (at : AtPoint l n) (room : ℕ) (inputs : L
     var_room : n.var < room
     var_room = omega (arith, apart.binds_below n.var apart.binds_var, low, le)
 
-    pinned_holds : (ts : Store) (m : Machine) (v : ℤ) → Fits layout ts m plain → (y : ℕ) → is_bound sc y ≡ true
-        → value (seen m) (slice_set m.locals n.var v) (Local y) ≡ number vars y
-    pinned_holds ts m v fits y e =
-        let other_one : y ≢ n.var = λ same. let k = (pin_kept l n room inputs sc vars good apart y e).no_var in let b = apart.binds_var in let f = ap nest.binds same in cc in
-        value_local (seen m) (slice_set m.locals n.var v) y ∙ get_or-set_other m.locals n.var y v (pos 0) other_one
-        ∙ fits.pinned y (number vars y) (pinned l n room inputs sc vars good apart y e)
-
     place_facts : (ts : Store) (m : Machine) → Fits layout ts m plain
         → Hold (record m { locals = slice_set m.locals n.var (value ts m.locals n.lo) }) (within l n room inputs sc vars good apart (value ts m.locals n.lo)).facts
     place_facts ts m fits =
-        let v = value ts m.locals n.lo in
-        let set : List ℤ = slice_set m.locals n.var v in (
-          ap (λ (y : ℕ). value (seen m) set (Local y)) (sym at.var) ∙ value_local (seen m) set n.var ∙ get_or-set_same m.locals n.var v (pos 0) (omega (arith, var_room, fits.locals)),
-          facts_hold vars (record m { locals = set }) (all_bound sc) (λ y e. pinned_holds ts m v fits y (sym (bound_is sc y) ∙ e)),
-        )
+        within_facts l n room inputs sc vars good apart at.var (value ts m.locals n.lo) m (omega (arith, var_room, fits.locals))
+        (λ y e. fits.pinned y (number vars y) (pinned l n room inputs sc vars good apart y e))
 
     is_body : IsBody layout (runs start) (worked 1) plain cs
     is_body = record {

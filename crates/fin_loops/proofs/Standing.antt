@@ -1,7 +1,7 @@
 -- A place where the locals of the variables in scope have their numbers, as a nest of a loop finds it, and the place of the
 -- loop's body inside.
 use Rattle.std.proofs.Common.{◌≡◌, ℕ, ◌<◌, Bool, true, false, ◌≢◌, ◌^◌, List, [], ◌∷◌, ◌++◌, map, length, Some, None, if◌then◌else◌, refl, sym, ap, ◌∙◌, subst, ℤ, pos, arith}
-use Rattle.std.specs.Prelude.{nat_eq, not, ◌&&◌, ◌||◌, slice_set}
+use Rattle.std.specs.Prelude.{nat_eq, not, ◌&&◌, ◌||◌, slice_set, slice_index_or}
 use Rattle.std.proofs.lemmas.Bool.{or_right}
 use Rattle.std.proofs.lemmas.Bool.Decides.{nat_tests}
 use Rattle.std.proofs.lemmas.List.{get_or-set_same, get_or-set_other}
@@ -10,13 +10,15 @@ use Rattle.fin_tensor.specs.declared.storage.Storage.{Storage}
 use Rattle.fin_ast.specs.Scope.{Scope, is_among, is_bound, within_loop}
 use Rattle.fin_ast.specs.Value.{Numbers, number}
 use Rattle.fin_ir.specs.declared.expression.IExpr.TheVariants.{Local}
-use Rattle.fin_ir.specs.Machine.{Machine}
+use Rattle.fin_ir.specs.Machine.{Machine, seen}
 use Rattle.fin_ir.specs.Value.{value_in}
+use Rattle.fin_ir.proofs.Values.{value_local}
 use Rattle.fin_looplet.proofs.Exprs.{names_local, loads_local}
 use Rattle.fin_stage.specs.Staged.{Run}
 use Rattle.fin_nest.specs.Nests.{Nest, Kept, Separate}
 use Rattle.fin_nest.specs.Courses.{nest_with}
 use Rattle.fin_nest.specs.Performs.{Fact, Place, Hold, Stay}
+use Rattle.fin_nest.proofs.Means.{with_local, not_the_variable}
 use Rattle.fin_simp.specs.Work.{World, world_of}
 use Rattle.fin_style_point.specs.declared.nest.Nest as point
 use Rattle.fin_style_point.specs.Parts.{course_of}
@@ -121,6 +123,17 @@ module _ (l : Loop) (n : point.Nest) (room : ℕ) (inputs : List Storage) (sc : 
     -- and where its body stands, at a coordinate
     abbrev pub within : ℤ → Place
     within i = place_inside outside (binds_inside l.checked n.next sc vars outside l.var) l.var i
+
+    -- whose facts hold where the variable's local has the number, and those of the variables in scope have theirs
+    pub within_facts : n.var ≡ l.var → (i : ℤ) (m : Machine) → n.var < length m.locals
+        → ((x : ℕ) → is_bound sc x ≡ true → slice_index_or m.locals x (pos 0) ≡ number vars x) → Hold (with_local n.var i m) (within i).facts
+    within_facts var i m below numbers =
+        let set : List ℤ = slice_set m.locals n.var i in
+        let held : (x : ℕ) → is_bound sc x ≡ true → value_in (with_local n.var i m) (Local x) ≡ number vars x = λ x e.
+        value_local (seen m) set x ∙ get_or-set_other m.locals n.var x i (pos 0) (not_the_variable whole apart x (pin_kept x e).no_var) ∙ numbers x e in (
+          ap (λ (x : ℕ). value_in (with_local n.var i m) (Local x)) (sym var) ∙ value_local (seen m) set n.var ∙ get_or-set_same m.locals n.var i (pos 0) below,
+          facts_hold vars (with_local n.var i m) (all_bound sc) (λ x e. held x (sym (bound_is sc x) ∙ e)),
+        )
 
     module _ (i : ℤ) (k : ℕ) (is : i ≡ pos k) (low : k < 2 ^ 40) where
       own_or_other : (x : ℕ) → (b : Bool) → nat_eq x l.var ≡ b → (b || is_among sc.loops x) ≡ true → IsCoordinate (slice_set vars l.var i) x
