@@ -20,3 +20,6 @@ pub mod TopsNamed
 pub mod Named
 pub mod Entries
 pub mod Sourced
+pub mod FixedTurns
+pub mod FixedFolds
+pub mod Fixed

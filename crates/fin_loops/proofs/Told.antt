@@ -38,13 +38,13 @@ module _ (l : Loop) (n : point.Nest) (w : World) (vars : Numbers) (flat : AllFla
     abbrev ss : List Seen
     ss = seens (views ts ls (all_looplets n) end i)
 
-    known : marks_seen x ss ≡ marks_at_point l n
+    pub known : marks_seen x ss ≡ marks_at_point l n
     known = marks_flat ts ls end i x (all_looplets n) flat settled
 
     rest_is : rest_seen x ss ≡ left_of_all l.body l.here (Some (marks_at_point l n))
     rest_is = ap x.rest known ∙ rests_are w l.body l.here (Some (marks_at_point l n))
 
-    fixed_is : is_fixed_seen x ss (rest_seen x ss) ≡ is_fixed_along l n
+    pub fixed_is : is_fixed_seen x ss (rest_seen x ss) ≡ is_fixed_along l n
     fixed_is =
         ap (is_fixed_by l.var (slots l) ss) rest_is
         ∙ ap (λ (v : ℕ → Bool). let rest = left_of_all l.body l.here (Some (marks_at_point l n)) in

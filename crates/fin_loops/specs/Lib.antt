@@ -8,3 +8,4 @@ pub mod Sparing
 pub mod Told
 pub mod Tops
 pub mod Sourced
+pub mod Fixed

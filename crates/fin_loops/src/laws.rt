@@ -1,6 +1,7 @@
 //! What is proved of the code of loops.
 ghost use Rattle.fin_loops.specs.Chunks.{LoopsInChunks, OpenedStand};
 ghost use Rattle.fin_loops.specs.Entering.{LoopsMean};
+ghost use Rattle.fin_loops.specs.Fixed.{FixedMeans};
 ghost use Rattle.fin_loops.specs.Keeping.{NestsAreSeparate};
 ghost use Rattle.fin_loops.specs.Parallel.{ParallelLoopsMean};
 ghost use Rattle.fin_loops.specs.Points.{PointsMean, LoopsGoOn};
@@ -86,4 +87,10 @@ pub fn tops_are_separate()
 /// nest with the looplets of the loop's reads and masks is one that is made for it.
 pub fn entries_enter()
     ensures { EntriesEnter }
+{}
+
+/// A loop over the coordinates whose codes do an update that is the same at each of them and pay nothing, behind a charge
+/// of 2 where there is a coordinate, means the nest along which that update is left.
+pub fn fixed_means()
+    ensures { FixedMeans }
 {}

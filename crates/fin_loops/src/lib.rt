@@ -5,10 +5,11 @@
 //! and that is the family over which a descent (`fin_descend`) is made. A nest of the family asks of locals the numbers of
 //! the variables in scope and nothing else, so that a place of the loop's body can be found wherever the nest is met.
 //!
-//! The laws are clauses of empty functions. `points_mean` is of nests that have come to one coordinate and to runs: what
-//! is seen there is known where the code is made (`specs/Points.antt`), and codes of the body under it make code of the
-//! nest. `nests_told` is of those before a step, and `loops_go_on` has what all of the family keep. By `loops_mean` the
-//! codes of an entry behind which the nest is made for the loop, with the code of the nest, mean the loop
+//! The laws are clauses of empty functions. `points_mean` is of nests that have come to one coordinate and to runs:
+//! what is seen there is known where the code is made (`specs/Points.antt`), and codes of the body under it make code
+//! of the nest. `nests_told` is of those before a step, `fixed_means` of those along which one update is left that is
+//! the same at each coordinate (`specs/Fixed.antt`), and `loops_go_on` has what all of the family keep. By `loops_mean`
+//! the codes of an entry behind which the nest is made for the loop, with the code of the nest, mean the loop
 //! (`specs/Entering.antt`), and by `parallel_loops_mean` they do for a parallel loop chunk by chunk
 //! (`specs/Parallel.antt`, `specs/Chunks.antt`). `nests_are_separate` and `codes_spare` say what these ask of nests and
 //! codes in words that are seen where the code is made (`specs/Keeping.antt`, `specs/Sparing.antt`). The nest that an entry
@@ -19,7 +20,7 @@
 mod laws;
 
 pub use laws::{
-    codes_spare, entries_enter, loops_go_on, loops_in_chunks, loops_mean, nests_are_separate,
-    nests_told, opened_stand, parallel_loops_mean, points_mean, tops_are_separate,
-    tops_hold_no_jumpers, tops_keep_out,
+    codes_spare, entries_enter, fixed_means, loops_go_on, loops_in_chunks, loops_mean,
+    nests_are_separate, nests_told, opened_stand, parallel_loops_mean, points_mean,
+    tops_are_separate, tops_hold_no_jumpers, tops_keep_out,
 };
