@@ -1,5 +1,5 @@
 -- Bounds of masks have no reads, and depend on the variables before the loop's own alone.
-use Rattle.std.proofs.Common.{◌≡◌, ℕ, suc, zero, ◌<◌, ◌≤◌, Bool, true, false, ◌&&◌, List, [], ◌∷◌, take, length, None, refl, sym, ap, ◌∙◌, subst, ℤ, pos, arith}
+use Rattle.std.proofs.Common.{◌≡◌, ℕ, suc, zero, ◌<◌, ◌≤◌, Bool, true, false, ◌&&◌, List, [], ◌∷◌, take, length, None, refl, sym, ap, ◌∙◌, subst, pos, arith}
 use Rattle.std.specs.Prelude.{nat_eq, nat_lt, ◌||◌}
 use Rattle.std.proofs.lemmas.Bool.Decides.{nat_tests}
 use Rattle.std.proofs.lemmas.List.{get_or-take, length-take-le}
@@ -18,7 +18,7 @@ use Rattle.fin_read.specs.Values.{value_code}
 use Rattle.fin_read.proofs.ByKind.{Kinds, by_kind}
 use Rattle.fin_read.proofs.Equations.{code_grows, named_var, named_neg, named_two, reads_neg, reads_two, small_neg, small_two}
 use Rattle.fin_simp.specs.Work.{bound_step, is_bound_of}
-use Rattle.fin_enter.specs.Bounds.{IsFree, BoundsAreFree, HaveNumbers, BoundsMean}
+use Rattle.fin_enter.specs.Bounds.{IsFree, BoundsAreFree, BoundsMean}
 
 module _ (var : ℕ) (vars : Numbers) (ts : Tensors) where
   abbrev Free : Expr → Type 0

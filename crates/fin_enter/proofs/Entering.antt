@@ -28,8 +28,8 @@ use Rattle.fin_enter.specs.Charges.{length_code}
 use Rattle.fin_enter.specs.Positions.{spot_in}
 use Rattle.fin_enter.specs.Indices.{AreAround}
 use Rattle.fin_enter.specs.Bounds.{BoundsMean}
-use Rattle.fin_enter.specs.Together.{Around, settled_index, behind_place, all_positions, behind_all, CanBePlaced, AllCanStand, FoundIn, AllFound}
-use Rattle.fin_enter.specs.Masked.{Tested, as_mask, bound_steps, behind_bounds, AreBounds}
+use Rattle.fin_enter.specs.Together.{Around, settled_index, behind_place, all_positions, behind_all, CanBePlaced, AllCanStand, FoundIn, AllFound, ArePlaced}
+use Rattle.fin_enter.specs.Masked.{Tested, as_mask, bound_steps, behind_bounds, AreBounds, AreBounded}
 use Rattle.fin_enter.specs.Entrances.{PlacedRead, AllPlaced}
 use Rattle.fin_enter.specs.LoopEntry.{driven_with, waiting, read_looplet, behind_cursor, read_looplets, behind_cursors, mask_looplets, and_length, lengths_by}
 use Rattle.fin_enter.specs.Entering.{HasLengths, around_in, tests_in, bounds_from, cursors_from, entered_by, CanDrive, AllCanDrive, CanEnter, IsNestOf, Enters, EntriesAreEntrances}
@@ -68,7 +68,7 @@ module _ (h : Heads) (sc : Scope) (e : Entry) where
       let s = c.store settled.0 in
       record { frozen = s.frozen; is = s.is; shape = sym s.shape ∙ c.shape; parts_are = sym s.parts; valid = s.valid; each = c.each; named = c.named; small = c.small }
 
-  all_stand : (reads : List Access) → AllCanDrive h sc e reads → AllCanStand e.store l parts sc reads
+  pub all_stand : (reads : List Access) → AllCanDrive h sc e reads → AllCanStand e.store l parts sc reads
   all_stand [] can = tt
   all_stand (a ∷ reads) can = (one_stands a (settled_index l a) refl can.0, all_stand reads can.1)
 
@@ -117,7 +117,7 @@ module _ (h : Heads) (sc : Scope) (e : Entry) where
           made = at_level a d at cursor is c ∙ ap (driven_with l a d at cursor) (sym c.shape);
         }
 
-    all_placed : (reads : List Access) (at cursor : ℕ) (ms : List Mask) (mls : List Looplet) → AllCanDrive h sc e reads
+    pub all_placed : (reads : List Access) (at cursor : ℕ) (ms : List Mask) (mls : List Looplet) → AllCanDrive h sc e reads
         → AllFound e.store ks l parts e.loop.vars reads at → behind_all l reads at < cursor → e.loop.loop.var ≤ at
         → behind_cursors l reads cursor ≤ length ks → MadeMasks e' ms mls → AllPlaced e' reads ms (read_looplets l reads at cursor ++ mls)
     all_placed [] at cursor ms mls can found below var_below room masks = masks
@@ -130,7 +130,7 @@ module _ (h : Heads) (sc : Scope) (e : Entry) where
           all_placed reads next (behind_cursor o cursor) ms mls can.1 found.1 (omega (arith, below, grown)) (omega (arith, var_below, more)) room masks,
         )
 
-    masks_made : (tests : List Tested) (next : ℕ) → AreBounds e.store ks h e.loop.vars tests next → MadeMasks e' (map (as_mask e.loop.vars) tests) (mask_looplets h tests next)
+    pub masks_made : (tests : List Tested) (next : ℕ) → AreBounds e.store ks h e.loop.vars tests next → MadeMasks e' (map (as_mask e.loop.vars) tests) (mask_looplets h tests next)
     masks_made [] next are = tt
     masks_made (t ∷ tests) next are = (record { bound = (value_code h t.bound next).value; is = are.0; made = refl }, masks_made tests (value_code h t.bound next).next are.1)
 
@@ -191,15 +191,21 @@ module _ (h : Heads) (sc : Scope) (e : Entry) where
 
 -- ---- all together
 
-module _ (mean : BoundsMean) (h : Heads) (sc : Scope) (e : Entry) (next : ℕ) (n : Nest Run) (can : CanEnter h sc e next) (nest : IsNestOf h e next n) where
+module _ (mean : BoundsMean) (h : Heads) (sc : Scope) (e : Entry) (next : ℕ) (can : CanEnter h sc e next) where
   abbrev whole : Around
   whole = around_in h e
+
+  abbrev begin : ℕ
+  begin = bounds_from h e next
+
+  abbrev bounds_end : ℕ
+  bounds_end = behind_bounds h (tests_in e) begin
 
   abbrev middle : List ℤ
   middle = stepped e.store (all_positions whole e.rest.reads next) e.locals
 
   abbrev end : List ℤ
-  end = stepped e.store (bound_steps h (tests_in e) (bounds_from h e next)) middle
+  end = stepped e.store (bound_steps h (tests_in e) begin) middle
 
   abbrev var_below : e.loop.loop.var ≤ next
   var_below = can.after
@@ -207,48 +213,77 @@ module _ (mean : BoundsMean) (h : Heads) (sc : Scope) (e : Entry) (next : ℕ) (
   around_after : (ks : List ℤ) → Agree next ks e.locals → AreAround sc e.loop.loop.var e.loop.vars ks
   around_after ks same x among lt = let q = can.around x among lt in (q.0, q.1, same x (omega (arith, lt, var_below)) ∙ q.2, q.3)
 
-  entered : Enters h e next n
-  entered =
-      let vars = e.loop.vars in
-      let reads = e.rest.reads in
-      let begin = bounds_from h e next in
-      let tail = cursors_grow whole reads (cursors_from h e next) in
-      let grown = places_grow whole reads next in
-      let bounds_end = behind_bounds h (tests_in e) begin in
-      let placed = all_positions_are_found e.store whole (λ tensor. parts_at e.world e.run tensor) sc vars reads next e.locals can.around var_below (all_stand h sc e reads can.reads)
-      (omega (arith, can.room, tail, bounds_after h (tests_in e) begin)) in
-      let near = numbers_kept sc e.loop.loop.var vars next e.locals middle can.after placed.kept can.numbers in
-      let bounded = all_bounds_mean mean e.store h sc vars e.loop.loop.var (tests_in e) begin middle can.tests
-      (omega (arith, can.after, grown)) near (omega (arith, can.room, tail, placed.long)) in
-      let same_steps = stepped_append e.store (all_positions whole reads next) (bound_steps h (tests_in e) begin) e.locals in
+  placed : ArePlaced e.store whole (λ tensor. parts_at e.world e.run tensor) e.loop.vars e.rest.reads next e.locals
+  placed =
+      let tail = cursors_grow whole e.rest.reads (cursors_from h e next) in
+      all_positions_are_found e.store whole (λ tensor. parts_at e.world e.run tensor) sc e.loop.vars e.rest.reads next e.locals can.around var_below (all_stand h sc e e.rest.reads can.reads)
+      (omega (arith, can.room, tail, bounds_after h (tests_in e) begin))
+
+  bounded : AreBounded e.store h e.loop.vars (tests_in e) begin middle
+  bounded =
+      let tail = cursors_grow whole e.rest.reads (cursors_from h e next) in
+      let grown = places_grow whole e.rest.reads next in
+      let near = numbers_kept sc e.loop.loop.var e.loop.vars next e.locals middle can.after placed.kept can.numbers in
+      all_bounds_mean mean e.store h sc e.loop.vars e.loop.loop.var (tests_in e) begin middle can.tests
+      (omega (arith, can.after, grown)) near (omega (arith, can.room, tail, placed.long))
+
+  is_end : (entered_by h e next).locals ≡ end
+  is_end = stepped_append e.store (all_positions whole e.rest.reads next) (bound_steps h (tests_in e) begin) e.locals
+
+  pub long_behind : length (entered_by h e next).locals ≡ length e.locals
+  long_behind = ap length is_end ∙ bounded.long ∙ placed.long
+
+  pub kept_behind : Agree next (entered_by h e next).locals e.locals
+  kept_behind =
+      let grown = places_grow whole e.rest.reads next in
       let back_to_middle : Agree next end middle = agree_less next begin end middle (omega (arith, grown)) bounded.kept in
-      let kept_end : Agree next end e.locals = agree_then next end middle e.locals back_to_middle placed.kept in
-      let long_end : length end ≡ length e.locals = bounded.long ∙ placed.long in
-      let ks = (entered_by h e next).locals in
-      let is_end : ks ≡ end = same_steps in
-      let kept : Agree next ks e.locals = subst (λ (js : List ℤ). Agree next js e.locals) (sym is_end) kept_end in
-      let long : length ks ≡ length e.locals = ap length is_end ∙ long_end in
-      let to_end : Agree begin ks middle = subst (λ (js : List ℤ). Agree begin js middle) (sym is_end) bounded.kept in
-      let found = placed.found ks (agree_less (behind_all whole reads next) begin ks middle (omega arith) to_end) in
-      let values = bounded.found ks (subst (λ (js : List ℤ). Agree bounds_end js end) (sym is_end) (agree_refl bounds_end end)) in
-      let made = masks_made h sc e ks (around_after ks kept) (tests_in e) begin values in
-      let masks = subst (λ (ms : List Mask). MadeMasks (entered_by h e next) ms (mask_looplets h (tests_in e) begin)) (sym (masks_are_tests vars e.loop.loop.var e.rest.tests)) made in
-      let all = all_placed h sc e ks (around_after ks kept) reads next (cursors_from h e next) (masks_of vars e.loop.loop.var e.rest) (mask_looplets h (tests_in e) begin) can.reads found
-      (omega (arith, bounds_after h (tests_in e) begin)) var_below (omega (arith, can.room, long)) masks in
-      record {
-        long = long;
-        kept = kept;
-        lengths = all_lengths h sc e ks (around_after ks kept) reads next can.reads found;
-        entrance = record {
-          bound = can.bound;
-          ordered = can.ordered;
-          small = can.small;
-          lo = nest.lo;
-          hi = nest.hi;
-          body = nest.body;
-          looplets = subst (λ (ls : List Looplet). AllPlaced (entered_by h e next) reads (masks_of vars e.loop.loop.var e.rest) ls) (sym nest.reads) all;
-        };
-      }
+      subst (λ (js : List ℤ). Agree next js e.locals) (sym is_end) (agree_then next end middle e.locals back_to_middle placed.kept)
+
+  -- wherever the locals of the steps are as they were the positions and the bounds are found
+  module _ (ks : List ℤ) (same : Agree bounds_end ks (entered_by h e next).locals) where
+    to_end : Agree bounds_end ks end
+    to_end = subst (λ (js : List ℤ). Agree bounds_end ks js) is_end same
+
+    pub positions_found : AllFound e.store ks whole (λ tensor. parts_at e.world e.run tensor) e.loop.vars e.rest.reads next
+    positions_found =
+        let to_middle = agree_then begin ks end middle (agree_less begin bounds_end ks end bounded.grows to_end) bounded.kept in
+        placed.found ks (agree_less (behind_all whole e.rest.reads next) begin ks middle (omega arith) to_middle)
+
+    pub bounds_found : AreBounds e.store ks h e.loop.vars (tests_in e) begin
+    bounds_found = bounded.found ks to_end
+
+    pub around_there : AreAround sc e.loop.loop.var e.loop.vars ks
+    around_there =
+        let grown = places_grow whole e.rest.reads next in
+        around_after ks (agree_then next ks (entered_by h e next).locals e.locals
+        (agree_less next bounds_end ks (entered_by h e next).locals (omega (arith, grown, bounded.grows)) same) kept_behind)
+
+  module _ (n : Nest Run) (nest : IsNestOf h e next n) where
+    entered : Enters h e next n
+    entered =
+        let vars = e.loop.vars in
+        let reads = e.rest.reads in
+        let ks = (entered_by h e next).locals in
+        let same = agree_refl bounds_end ks in
+        let found = positions_found ks same in
+        let made = masks_made h sc e ks (around_there ks same) (tests_in e) begin (bounds_found ks same) in
+        let masks = subst (λ (ms : List Mask). MadeMasks (entered_by h e next) ms (mask_looplets h (tests_in e) begin)) (sym (masks_are_tests vars e.loop.loop.var e.rest.tests)) made in
+        let all = all_placed h sc e ks (around_there ks same) reads next (cursors_from h e next) (masks_of vars e.loop.loop.var e.rest) (mask_looplets h (tests_in e) begin) can.reads found
+        (omega (arith, bounds_after h (tests_in e) begin)) var_below (omega (arith, can.room, long_behind)) masks in
+        record {
+          long = long_behind;
+          kept = kept_behind;
+          lengths = all_lengths h sc e ks (around_there ks same) reads next can.reads found;
+          entrance = record {
+            bound = can.bound;
+            ordered = can.ordered;
+            small = can.small;
+            lo = nest.lo;
+            hi = nest.hi;
+            body = nest.body;
+            looplets = subst (λ (ls : List Looplet). AllPlaced (entered_by h e next) reads (masks_of vars e.loop.loop.var e.rest) ls) (sym nest.reads) all;
+          };
+        }
 
 pub entries_are_entrances : BoundsMean → EntriesAreEntrances
-entries_are_entrances mean h sc e next n can nest = entered mean h sc e next n can nest
+entries_are_entrances mean h sc e next n can nest = entered mean h sc e next can n nest

@@ -20,7 +20,7 @@ module _ (distance : DistancesMean) (e : Entry) where
   read_made a None l h = h
   read_made a (Some d) l h = record { site = site_of e a d h.format h.at h.cursor; stands = footed_reads_stand distance e a d h.format h.at h.cursor h.footed; made = h.made }
 
-  all_made : (reads : List Access) (ms : List Mask) (ls : List Looplet) → AllPlaced e reads ms ls → MadeAll e reads ms ls
+  pub all_made : (reads : List Access) (ms : List Mask) (ls : List Looplet) → AllPlaced e reads ms ls → MadeAll e reads ms ls
   all_made [] ms ls h = h
   all_made (a ∷ reads) ms [] h = absurd h
   all_made (a ∷ reads) ms (l ∷ ls) h = (read_made a (driven_index e.loop.loop.var a.at) l h.0, all_made reads ms ls h.1)

@@ -11,6 +11,8 @@ pub mod Entrances
 pub mod Masked
 pub mod Entering
 pub mod EntryCodes
+pub mod LowBounds
+pub mod Lasting
 pub mod Masking
 pub mod Pushing
 pub mod LoopEntry

@@ -15,3 +15,4 @@ pub mod PushedReads
 pub mod Entering
 pub mod EntryCodes
 pub mod MadeEntry
+pub mod Lasting

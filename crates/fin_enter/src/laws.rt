@@ -8,6 +8,7 @@ ghost use Rattle.fin_enter.specs.Indices.{IndicesAreBound};
 ghost use Rattle.fin_enter.specs.Together.{AllPositionsAreFound};
 ghost use Rattle.fin_enter.specs.Entrances.{EntrancesAreMade};
 ghost use Rattle.fin_enter.specs.Entering.{EntriesAreEntrances};
+ghost use Rattle.fin_enter.specs.Lasting.{EntriesLast};
 ghost use Rattle.fin_enter.specs.EntryCodes.{EntriesAreKnown, EntryCodesEnter};
 ghost use Rattle.fin_enter.specs.Masked.{AllBoundsMean, MasksAreTests};
 
@@ -118,4 +119,13 @@ pub fn entry_codes_enter()
     ensures { EntryCodesEnter }
 {
     bounds_mean();
+}
+
+/// Where the locals that the steps of a loop's entry left, and the tensors that the body leaves, are as they were, the
+/// looplets are made for the loop still, over whatever of its coordinates.
+pub fn entries_last()
+    ensures { EntriesLast }
+{
+    bounds_mean();
+    distances_mean();
 }

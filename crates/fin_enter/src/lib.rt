@@ -30,7 +30,7 @@ pub use entrance::{Entrance, LoopHead, enter};
 pub use entry::push_charges;
 pub use laws::{
     all_bounds_mean, all_positions_are_found, bounds_are_free, bounds_mean, entrances_are_made,
-    entries_are_entrances, entries_are_known, entries_are_paid, entry_codes_enter,
+    entries_are_entrances, entries_are_known, entries_are_paid, entries_last, entry_codes_enter,
     footed_reads_stand, indices_are_bound, lengths_mean, masks_are_tests, positions_are_found,
     stored_reads_are_found, tensors_are_stored, tensors_have_formats,
 };

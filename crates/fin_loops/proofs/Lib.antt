@@ -12,7 +12,6 @@ pub mod Parallel
 pub mod Keeping
 pub mod Sparing
 pub mod Told
-pub mod TopsBounds
 pub mod TopsLooplets
 pub mod Tops
 pub mod TopsJumpless

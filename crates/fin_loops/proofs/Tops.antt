@@ -21,7 +21,7 @@ use Rattle.fin_enter.proofs.Entering.{cursors_grow}
 use Rattle.fin_loops.specs.Loops.{Loop, bound_in, rest_entered, changed_in}
 use Rattle.fin_loops.specs.Keeping.{IsOuter, KeepsOut}
 use Rattle.fin_loops.specs.Tops.{around_of, looplets_from, own_first, own_end, own_from, AreEnds, IsTop, IsNumbered, NamesOnce, TopsKeepOut}
-use Rattle.fin_loops.proofs.TopsBounds.{Below, all_bounds}
+use Rattle.fin_enter.proofs.LowBounds.{Below, all_bounds}
 use Rattle.fin_loops.proofs.TopsLooplets.{AllKeep, all_keep}
 
 -- ---- which locals are owned

@@ -36,7 +36,7 @@ use Rattle.fin_enter.proofs.Together.{place_grows, places_grow}
 use Rattle.fin_enter.proofs.Masked.{bounds_grow}
 use Rattle.fin_enter.proofs.Entering.{cursor_grows, cursors_grow}
 use Rattle.fin_loops.specs.Tops.{names_once}
-use Rattle.fin_loops.proofs.TopsBounds.{Below, below_more, bound_low, AreBounds}
+use Rattle.fin_enter.proofs.LowBounds.{Below, below_more, bound_low, AreBounds}
 
 -- ---- one after another
 
