@@ -216,7 +216,7 @@ module _ (l : Loop) (range : Option (ℕ × ℕ)) (par : Bool) (line last next n
   all_loops : AllLoops big (bindings_of_all l.body)
   all_loops v e = bound_big v (or_right (nat_eq v l.var) (is_among (bindings_of_all l.body) v) e)
 
-  named : are_named l.body (within_loop q.scope l.var) ≡ true
+  pub named : are_named l.body (within_loop q.scope l.var) ≡ true
   named = sym (ap (λ (f : Scope → Bool). f q.scope) (of_loop (Scope → Bool) stmt_step l.var range par l.body line last)) ∙ at.named
 
   -- the variables before the loop's own are those around it

@@ -22,3 +22,6 @@ pub mod Sourced
 pub mod FixedTurns
 pub mod FixedFolds
 pub mod Fixed
+pub mod Closing
+pub mod FreshThere
+pub mod Chunked

@@ -9,3 +9,4 @@ pub mod Told
 pub mod Tops
 pub mod Sourced
 pub mod Fixed
+pub mod Chunked

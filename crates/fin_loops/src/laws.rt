@@ -1,4 +1,5 @@
 //! What is proved of the code of loops.
+ghost use Rattle.fin_loops.specs.Chunked.{ChunksEnter};
 ghost use Rattle.fin_loops.specs.Chunks.{LoopsInChunks, OpenedStand};
 ghost use Rattle.fin_loops.specs.Entering.{LoopsMean};
 ghost use Rattle.fin_loops.specs.Fixed.{FixedMeans};
@@ -93,4 +94,10 @@ pub fn entries_enter()
 /// of 2 where there is a coordinate, means the nest along which that update is left.
 pub fn fixed_means()
     ensures { FixedMeans }
+{}
+
+/// The codes of a parallel loop's entry enter it chunk by chunk wherever it may stand: they leave the place as it was,
+/// pay for the entry, and on each machine that begins a chunk the nest is one that is made for that chunk.
+pub fn chunks_enter()
+    ensures { ChunksEnter }
 {}

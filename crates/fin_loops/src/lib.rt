@@ -14,13 +14,14 @@
 //! (`specs/Parallel.antt`, `specs/Chunks.antt`). `nests_are_separate` and `codes_spare` say what these ask of nests and
 //! codes in words that are seen where the code is made (`specs/Keeping.antt`, `specs/Sparing.antt`). The nest that an entry
 //! makes meets them (`tops_keep_out`, `tops_are_separate`, `tops_hold_no_jumpers`: `specs/Tops.antt`), and the codes of the
-//! entry enter the loop wherever it stands (`entries_enter`: `specs/Sourced.antt`).
+//! entry enter the loop wherever it stands, at once or chunk by chunk (`entries_enter`, `chunks_enter`:
+//! `specs/Sourced.antt`, `specs/Chunked.antt`).
 #![tactic(auto)]
 
 mod laws;
 
 pub use laws::{
-    codes_spare, entries_enter, fixed_means, loops_go_on, loops_in_chunks, loops_mean,
+    chunks_enter, codes_spare, entries_enter, fixed_means, loops_go_on, loops_in_chunks, loops_mean,
     nests_are_separate, nests_told, opened_stand, parallel_loops_mean, points_mean,
     tops_are_separate, tops_hold_no_jumpers, tops_keep_out,
 };
