@@ -19,6 +19,7 @@ pub mod TopsNamed
 pub mod Named
 pub mod Entries
 pub mod Sourced
+pub mod Sources
 pub mod FixedTurns
 pub mod FixedFolds
 pub mod Fixed

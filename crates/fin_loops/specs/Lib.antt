@@ -8,5 +8,6 @@ pub mod Sparing
 pub mod Told
 pub mod Tops
 pub mod Sourced
+pub mod Sources
 pub mod Fixed
 pub mod Chunked

@@ -7,6 +7,7 @@ ghost use Rattle.fin_loops.specs.Keeping.{NestsAreSeparate};
 ghost use Rattle.fin_loops.specs.Parallel.{ParallelLoopsMean};
 ghost use Rattle.fin_loops.specs.Points.{PointsMean, LoopsGoOn};
 ghost use Rattle.fin_loops.specs.Sourced.{EntriesEnter};
+ghost use Rattle.fin_loops.specs.Sources.{SourcesAreHandedDown, SourcesOfLoops};
 ghost use Rattle.fin_loops.specs.Sparing.{CodesSpare};
 ghost use Rattle.fin_loops.specs.Told.{NestsTold};
 ghost use Rattle.fin_loops.specs.Tops.{TopsAreSeparate, TopsHoldNoJumpers, TopsKeepOut};
@@ -100,4 +101,15 @@ pub fn fixed_means()
 /// pay for the entry, and on each machine that begins a chunk the nest is one that is made for that chunk.
 pub fn chunks_enter()
     ensures { ChunksEnter }
+{}
+
+/// What a lowering has to know of statements it knows of the parts of a list, and of the bodies of blocks, `if`s, lets and
+/// loops.
+pub fn sources_hand_down()
+    ensures { SourcesAreHandedDown }
+{}
+
+/// A loop of which that is known is sourced, and its variables are numbered in order, as the laws on its entry ask.
+pub fn sources_of_loops()
+    ensures { SourcesOfLoops }
 {}
