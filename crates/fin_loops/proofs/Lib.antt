@@ -20,6 +20,8 @@ pub mod Named
 pub mod Entries
 pub mod Sourced
 pub mod Sources
+pub mod SourcesSmall
+pub mod SourcesWhole
 pub mod FixedTurns
 pub mod FixedFolds
 pub mod Fixed

@@ -7,12 +7,14 @@ use Rattle.fin_ast.specs.declared.checked.Checked.{Checked}
 use Rattle.fin_ast.specs.declared.tree.Expr.{Expr}
 use Rattle.fin_ast.specs.declared.tree.Stmt.{Stmt}
 use Rattle.fin_ast.specs.declared.tree.Stmt.TheVariants as s
+use Rattle.fin_ast.specs.Accepted.{IsAccepted}
 use Rattle.fin_ast.specs.Bindings.{bindings_of_all, counts_from}
 use Rattle.fin_ast.specs.Dense.{setting_of}
 use Rattle.fin_ast.specs.Literals.{are_worded}
 use Rattle.fin_simp.specs.Moving.{ReadsStay}
-use Rattle.fin_simp.specs.Numbered.{Here, behind, behind_test, past_all, past_stmt}
+use Rattle.fin_simp.specs.Numbered.{Here, outset, behind, behind_test, past_all, past_stmt}
 use Rattle.fin_simp.specs.Rest.{Access}
+use Rattle.fin_simp.specs.Staying.{AreSingle}
 use Rattle.fin_perform.specs.Layouts.{variables_in}
 use Rattle.fin_perform.specs.Places.{left_of_all}
 use Rattle.fin_enter.specs.Indices.{small_offsets}
@@ -33,6 +35,10 @@ pub record IsSource (c : Checked) (xs : List Stmt) (h : Here) (v : ℕ) : Type 0
   pub within : v + length (bindings_of_all xs) ≤ variables_in c
   pub stay : (inputs : List Storage) → ReadsStay (setting_of c inputs) xs h
   pub small : list_all has_small_offsets (left_of_all xs h None).reads ≡ true
+
+-- an accepted program, where plain indices name one variable at most
+abbrev pub ProgramsAreSources : Type 0
+ProgramsAreSources = (c : Checked) → IsAccepted c → AreSingle c → IsSource c c.program.body outset 0
 
 -- ---- handed down
 

@@ -7,12 +7,12 @@ ghost use Rattle.fin_loops.specs.Keeping.{NestsAreSeparate};
 ghost use Rattle.fin_loops.specs.Parallel.{ParallelLoopsMean};
 ghost use Rattle.fin_loops.specs.Points.{PointsMean, LoopsGoOn};
 ghost use Rattle.fin_loops.specs.Sourced.{EntriesEnter};
-ghost use Rattle.fin_loops.specs.Sources.{SourcesAreHandedDown, SourcesOfLoops};
+ghost use Rattle.fin_loops.specs.Sources.{ProgramsAreSources, SourcesAreHandedDown, SourcesOfLoops};
 ghost use Rattle.fin_loops.specs.Sparing.{CodesSpare};
 ghost use Rattle.fin_loops.specs.Told.{NestsTold};
 ghost use Rattle.fin_loops.specs.Tops.{TopsAreSeparate, TopsHoldNoJumpers, TopsKeepOut};
 
-use fin_simp::masks_compare;
+use fin_simp::{accepted_stay, masks_compare};
 
 /// Codes that mean a loop's body under what is known at a point, behind the charge and the coordinate, mean the nest that
 /// has come to that point, whatever the loop is in a run.
@@ -113,3 +113,11 @@ pub fn sources_hand_down()
 pub fn sources_of_loops()
     ensures { SourcesOfLoops }
 {}
+
+/// The body of an accepted program, whose plain indices name one variable at most, has what a lowering has to know of
+/// statements.
+pub fn programs_are_sources()
+    ensures { ProgramsAreSources }
+{
+    accepted_stay();
+}

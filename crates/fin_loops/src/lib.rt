@@ -23,5 +23,6 @@ mod laws;
 pub use laws::{
     chunks_enter, codes_spare, entries_enter, fixed_means, loops_go_on, loops_in_chunks, loops_mean,
     nests_are_separate, nests_told, opened_stand, parallel_loops_mean, points_mean,
-    sources_hand_down, sources_of_loops, tops_are_separate, tops_hold_no_jumpers, tops_keep_out,
+    programs_are_sources, sources_hand_down, sources_of_loops, tops_are_separate,
+    tops_hold_no_jumpers, tops_keep_out,
 };
