@@ -61,7 +61,9 @@ fill_shown ts ls (Run (Fill g)) end i f e = e
 fill_shown ts ls (Run (Value x)) end i f e = absurd (cc)
 fill_shown ts ls (Run (Sub tensor level place there)) end i f e = absurd (cc)
 fill_shown ts ls (Spike body tail) end i f e = absurd (cc)
-fill_shown ts ls (Lookup coord leaf) end i f e = absurd (cc)
+fill_shown ts ls (Lookup coord (Fill g)) end i f e = e
+fill_shown ts ls (Lookup coord (Value x)) end i f e = absurd (cc)
+fill_shown ts ls (Lookup coord (Sub tensor level place there)) end i f e = absurd (cc)
 fill_shown ts ls (Sequence' n phases) end i f e = absurd (cc)
 fill_shown ts ls (Stepper' p walker) end i f e = absurd (cc)
 fill_shown ts ls (Jumper' p walker) end i f e = absurd (cc)
@@ -151,7 +153,7 @@ gap_behind (Some g) true j k gs at f is own rest e =
     ap at (sym (same_number j k is)) ∙ sym own ∙ here
 gap_behind (Some g) false j k gs at f is own rest e = rest (sym (ap (λ (b : Bool). if b then Some g else gap_in gs k) is) ∙ e)
 
-gaps_right : (at : ℕ → Option ℤ) (es : List Numbered) (k : ℕ) (f : ℤ) → gap_in (gaps_told at es) k ≡ Some f → at k ≡ Some f
+pub gaps_right : (at : ℕ → Option ℤ) (es : List Numbered) (k : ℕ) (f : ℤ) → gap_in (gaps_told at es) k ≡ Some f → at k ≡ Some f
 gaps_right at [] k f e = absurd (cc)
 gaps_right at (x ∷ es) k f e = gap_behind (at x.number) (nat_eq x.number k) x.number k (gaps_told at es) at f refl refl (gaps_right at es k f) e
 
@@ -163,7 +165,7 @@ test_behind (Some g) true j k gs at z is own rest e =
     (g, (ap at (sym (same_number j k is)) ∙ sym own, cc))
 test_behind (Some g) false j k gs at z is own rest e = rest (sym (ap (λ (b : Bool). if b then Some (truth_of g) else test_in gs k) is) ∙ e)
 
-tests_right : (at : ℕ → Option Bool) (es : List Numbered) (k : ℕ) (z : ℤ) → test_in (tests_told at es) k ≡ Some z → (t : Bool) × ((at k ≡ Some t) × (truth_of t ≡ z))
+pub tests_right : (at : ℕ → Option Bool) (es : List Numbered) (k : ℕ) (z : ℤ) → test_in (tests_told at es) k ≡ Some z → (t : Bool) × ((at k ≡ Some t) × (truth_of t ≡ z))
 tests_right at [] k z e = absurd (cc)
 tests_right at (x ∷ es) k z e = test_behind (at x.number) (nat_eq x.number k) x.number k (tests_told at es) at z refl refl (tests_right at es k z) e
 
@@ -171,12 +173,12 @@ some_first : (b : Bool) (z : ℤ) (p q : Option ℤ) → (if b then Some z else 
 some_first true z p q = refl
 some_first false z p q = refl
 
-gaps_both : (gs hs : List Gap) (k : ℕ) → gap_in (gs ++ hs) k ≡ option_or (gap_in gs k) (gap_in hs k)
+pub gaps_both : (gs hs : List Gap) (k : ℕ) → gap_in (gs ++ hs) k ≡ option_or (gap_in gs k) (gap_in hs k)
 gaps_both [] hs k = refl
 gaps_both (g ∷ gs) hs k =
     ap (λ (o : Option ℤ). if nat_eq g.read k then Some g.fill else o) (gaps_both gs hs k) ∙ some_first (nat_eq g.read k) g.fill (gap_in gs k) (gap_in hs k)
 
-tests_both : (gs hs : List Known) (k : ℕ) → test_in (gs ++ hs) k ≡ option_or (test_in gs k) (test_in hs k)
+pub tests_both : (gs hs : List Known) (k : ℕ) → test_in (gs ++ hs) k ≡ option_or (test_in gs k) (test_in hs k)
 tests_both [] hs k = refl
 tests_both (g ∷ gs) hs k =
     ap (λ (o : Option ℤ). if nat_eq g.test k then Some (truth_of g.holds) else o) (tests_both gs hs k)

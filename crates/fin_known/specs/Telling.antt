@@ -6,7 +6,7 @@ use Rattle.fin_ir.specs.declared.expression.IExpr.TheVariants.{Num}
 use Rattle.fin_looplet.specs.declared.looplet.Leaf.{Leaf}
 use Rattle.fin_looplet.specs.declared.looplet.Leaf.TheVariants.{Fill, Value, Sub}
 use Rattle.fin_looplet.specs.declared.looplet.Looplet.{Looplet}
-use Rattle.fin_looplet.specs.declared.looplet.Looplet.TheVariants.{Run}
+use Rattle.fin_looplet.specs.declared.looplet.Looplet.TheVariants.{Run, Lookup}
 use Rattle.fin_nest.specs.declared.entries.Numbered.{Numbered}
 use Rattle.fin_nest.specs.Entries.{numbers}
 use Rattle.fin_style_point.specs.declared.nest.Nest.{Nest}
@@ -24,9 +24,10 @@ leaf_fill (Fill f) = Some f
 leaf_fill (Value e) = None
 leaf_fill (Sub tensor level place there) = None
 
--- a run of a fill is a gap
+-- a run of a fill is a gap, and so is a lookup of one, at each coordinate
 abbrev pub fill_told : Looplet → Option ℤ
 fill_told (Run leaf) = leaf_fill leaf
+fill_told (Lookup coord leaf) = leaf_fill leaf
 fill_told _ = None
 
 abbrev pub truth_of_number : ℤ → Option Bool

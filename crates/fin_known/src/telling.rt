@@ -13,6 +13,7 @@ fn fill_told(looplet: &Looplet) -> Option<i64>
 {
     match looplet {
         Looplet::Run(leaf) => leaf_fill(leaf),
+        Looplet::Lookup { coord: _, leaf } => leaf_fill(leaf),
         _ => None,
     }
 }
