@@ -28,3 +28,5 @@ pub mod Fixed
 pub mod Closing
 pub mod FreshThere
 pub mod Chunked
+pub mod FactsWords
+pub mod Facts

@@ -11,3 +11,4 @@ pub mod Sourced
 pub mod Sources
 pub mod Fixed
 pub mod Chunked
+pub mod Facts

@@ -2,6 +2,7 @@
 ghost use Rattle.fin_loops.specs.Chunked.{ChunksEnter};
 ghost use Rattle.fin_loops.specs.Chunks.{LoopsInChunks, OpenedStand};
 ghost use Rattle.fin_loops.specs.Entering.{LoopsMean};
+ghost use Rattle.fin_loops.specs.Facts.{NothingIsTold, PartsAreKnown, WordsAreTold};
 ghost use Rattle.fin_loops.specs.Fixed.{FixedMeans};
 ghost use Rattle.fin_loops.specs.Keeping.{NestsAreSeparate};
 ghost use Rattle.fin_loops.specs.Parallel.{ParallelLoopsMean};
@@ -121,3 +122,18 @@ pub fn programs_are_sources()
 {
     accepted_stay();
 }
+
+/// A nest by whose heads, and what is known around, nothing is left of its loop's body, has nothing to do.
+pub fn nothing_is_told()
+    ensures { NothingIsTold }
+{}
+
+/// What is known of a nest of a loop is known of its parts.
+pub fn parts_are_known()
+    ensures { PartsAreKnown }
+{}
+
+/// What a nest of a loop tells, around what is known there, is words.
+pub fn words_are_told()
+    ensures { WordsAreTold }
+{}
