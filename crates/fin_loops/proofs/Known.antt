@@ -33,7 +33,7 @@ run_flat (looplet.Jumper' p walker) e = cc
 run_flat (looplet.Switch' n cases) e = cc
 run_flat (looplet.Shift' by p child) e = cc
 
-both_runs : (l : Looplet) (rest : List Looplet) → list_all is_run (l ∷ rest) ≡ true → (is_run l ≡ true) × (list_all is_run rest ≡ true)
+pub both_runs : (l : Looplet) (rest : List Looplet) → list_all is_run (l ∷ rest) ≡ true → (is_run l ≡ true) × (list_all is_run rest ≡ true)
 both_runs l rest e = elim (is_run l) as (λ b. is_run l ≡ b → (b && list_all is_run rest) ≡ true → (is_run l ≡ true) × (list_all is_run rest ≡ true)) [
   | true ↦ (λ f h. (f, h))
   | false ↦ (λ f h. cc)
@@ -65,7 +65,7 @@ seen_in ts ls end i l = (view ts ls l end i).seen
 abbrev bare : Looplet → Seen
 bare l = seen_in (λ t. nothing) [] (pos 0) (pos 0) l
 
-no_fill : (b : Bool) (tensor level : ℕ) (place : ℤ) → fill_of (if b then absent else position tensor level place) ≡ None
+pub no_fill : (b : Bool) (tensor level : ℕ) (place : ℤ) → fill_of (if b then absent else position tensor level place) ≡ None
 no_fill true tensor level place = refl
 no_fill false tensor level place = refl
 

@@ -30,3 +30,4 @@ pub mod FreshThere
 pub mod Chunked
 pub mod FactsWords
 pub mod Facts
+pub mod FactsPoints

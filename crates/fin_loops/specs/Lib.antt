@@ -12,3 +12,4 @@ pub mod Sources
 pub mod Fixed
 pub mod Chunked
 pub mod Facts
+pub mod FactsPoints

@@ -3,6 +3,7 @@ ghost use Rattle.fin_loops.specs.Chunked.{ChunksEnter};
 ghost use Rattle.fin_loops.specs.Chunks.{LoopsInChunks, OpenedStand};
 ghost use Rattle.fin_loops.specs.Entering.{LoopsMean};
 ghost use Rattle.fin_loops.specs.Facts.{NothingIsTold, PartsAreKnown, WordsAreTold};
+ghost use Rattle.fin_loops.specs.FactsPoints.{PointsAreTold};
 ghost use Rattle.fin_loops.specs.Fixed.{FixedMeans};
 ghost use Rattle.fin_loops.specs.Keeping.{NestsAreSeparate};
 ghost use Rattle.fin_loops.specs.Parallel.{ParallelLoopsMean};
@@ -136,4 +137,10 @@ pub fn parts_are_known()
 /// What a nest of a loop tells, around what is known there, is words.
 pub fn words_are_told()
     ensures { WordsAreTold }
+{}
+
+/// Along runs and lookups, of which the masks are runs, what a nest of a loop tells is what is known at each of its
+/// coordinates, where no two of its looplets are for one driven read or one test.
+pub fn points_are_told()
+    ensures { PointsAreTold }
 {}
