@@ -1,8 +1,6 @@
 -- A whole accepted program has what a lowering has to know of statements.
-use Rattle.std.proofs.Common.{◌≡◌, ℕ, ◌+◌, ◌≤◌, List, [], length, ap, arith}
-use Rattle.fin_ast.specs.declared.checked.Checked.{Checked}
+use Rattle.std.proofs.Common.{◌≡◌, ◌+◌, ◌≤◌, [], length, ap, arith}
 use Rattle.fin_ast.specs.declared.checked.Dims.{Dims}
-use Rattle.fin_ast.specs.Accepted.{IsAccepted}
 use Rattle.fin_ast.specs.Bindings.{bindings_of_all}
 use Rattle.fin_ast.specs.Infer.{places_in}
 use Rattle.fin_ast.specs.Sizes.{first_of, large_in_header, large_in_place, ranges_of}
