@@ -111,17 +111,17 @@ module _ (l : Loop) (range : Option (ℕ × ℕ)) (line last next need : ℕ) (t
   e = entry_in l true q r m
 
   abbrev begun : Machine
-  begun = there l range true line last next need sourced numbered can q le at r r' m ready trails live able whole refl refl refl is.looplets
+  begun = there l range true line last next need sourced numbered can.room q le at r r' m ready trails live able can.ordered whole refl refl refl is.looplets
 
   long_begun : length begun.locals ≡ q.room
-  long_begun = long_there l range true line last next need sourced numbered can q le at r r' m ready trails live able whole refl refl refl is.looplets ∙ ready.locals
+  long_begun = long_there l range true line last next need sourced numbered can.room q le at r r' m ready trails live able can.ordered whole refl refl refl is.looplets ∙ ready.locals
 
   room : ends.to < length begun.locals
   room = let enough = over.room in let long = long_begun in omega (arith, enough, le, long)
 
   behind : cursors_from (heads_in l.checked) e next ≤ ends.from
   behind =
-      let same = behind_told l range true line last next need sourced numbered can q le at r r' m ready trails live able in
+      let same = behind_told l range true line last next need sourced numbered can.room q le at r r' m ready trails live able in
       let grows = cursors_grow (around_in (heads_in l.checked) e) e.rest.reads (cursors_from (heads_in l.checked) e next) in
       let after = over.behind in
       omega (arith, same, grows, after)
@@ -129,14 +129,14 @@ module _ (l : Loop) (range : Option (ℕ × ℕ)) (line last next need : ℕ) (t
   -- what the body leaves is what the loop leaves
   steady_is : (t : ℕ) → is_in e.rest.changed t ≡ false → nest.steady t ≡ true
   steady_is t free =
-      ap (λ (z : Rest). not (is_in z.changed t)) (sym (told l range true line last next need sourced numbered can q le at)) ∙ ap not free
+      ap (λ (z : Rest). not (is_in z.changed t)) (sym (told l range true line last next need sourced numbered can.room q le at)) ∙ ap not free
 
   module _ (c : ℕ × ℕ) (chunk : IsChunk (parallel_in l q r) c) (k : Machine) (locals : k.locals ≡ chunk_locals ends.from ends.to begun.locals c)
       (same : (t : ℕ) → nest.steady t ≡ true → seen k t ≡ seen begun t) where
     as_entered : IsAsEntered (heads_in l.checked) e next (seen k) k.locals
     as_entered = record {
       long = ap length locals ∙ long_of ends begun.locals c over.apart room
-          ∙ long_there l range true line last next need sourced numbered can q le at r r' m ready trails live able whole refl refl refl is.looplets;
+          ∙ long_there l range true line last next need sourced numbered can.room q le at r r' m ready trails live able can.ordered whole refl refl refl is.looplets;
       locals = λ y lt. ap (λ (zs : List ℤ). slice_index_or zs y (pos 0)) locals ∙ others_are ends begun.locals c over.apart room y (let low = behind in omega (arith, low, lt));
       store = λ t free. same t (steady_is t free);
     }
@@ -144,9 +144,9 @@ module _ (l : Loop) (range : Option (ℕ × ℕ)) (line last next need : ℕ) (t
     looplets_made : MadeAll (chunk_entry l q r k c) e.rest.reads (masks_of q.vars l.var e.rest) nest.reads
     looplets_made =
         subst (λ (ls : List Looplet). MadeAll (chunk_entry l q r k c) e.rest.reads (masks_of q.vars l.var e.rest) ls)
-        (looplets_told l range true line last next need sourced numbered can q le at r r' m ready trails live able ∙ sym is.looplets)
-        (entries_last (bounds_mean values_mean) distances_mean (heads_in l.checked) (big l range true line last next need sourced numbered can q le at) e next (seen k) k.locals c.0 (c.1 - c.0)
-        (can_be l range true line last next need sourced numbered can q le at r r' m ready trails live able) as_entered)
+        (looplets_told l range true line last next need sourced numbered can.room q le at r r' m ready trails live able ∙ sym is.looplets)
+        (entries_last (bounds_mean values_mean) distances_mean (heads_in l.checked) (big l range true line last next need sourced numbered can.room q le at) e next (seen k) k.locals c.0 (c.1 - c.0)
+        (can_be l range true line last next need sourced numbered can.room q le at r r' m ready trails live able can.ordered) as_entered)
 
     ends_are : c.0 + (c.1 - c.0) ≡ c.1
     ends_are = let ordered = chunk.ordered in omega (arith, ordered)
@@ -157,15 +157,15 @@ module _ (l : Loop) (range : Option (ℕ × ℕ)) (line last next need : ℕ) (t
     made : IsMade (chunk_entry l q r k c) nest
     made = record {
       entered = record { driven = refl; masks = refl };
-      bound = (may l range true line last next need sourced numbered can q le at).0.counted;
+      bound = (may l range true line last next need sourced numbered can.room q le at).0.counted;
       begins = chunk.begins;
       ends = (let same_end = ends_are in let within = in_range in omega (arith, same_end, within));
-      body = turns_told l range true line last next need sourced numbered can q le at r (seen k) k.locals c.0 (c.1 - c.0);
+      body = turns_told l range true line last next need sourced numbered can.room q le at r (seen k) k.locals c.0 (c.1 - c.0);
       lo = ap (λ (x : IExpr). value (seen k) k.locals x) over.lo ∙ value_local (seen k) k.locals ends.from
           ∙ ap (λ (zs : List ℤ). slice_index_or zs ends.from (pos 0)) locals ∙ from_is ends begun.locals c over.apart room;
       hi = ap (λ (x : IExpr). value (seen k) k.locals x) over.hi ∙ value_local (seen k) k.locals ends.to
           ∙ ap (λ (zs : List ℤ). slice_index_or zs ends.to (pos 0)) locals ∙ to_is ends begun.locals c over.apart room ∙ ap (λ (n : ℕ). pos n) (sym ends_are);
-      top = (let same_end = ends_are in let within = in_range in let small = top_small l range true line last next need sourced numbered can q le at in omega (arith, same_end, within, small));
+      top = (let same_end = ends_are in let within = in_range in let small = top_small l range true line last next need sourced numbered can.room q le at in omega (arith, same_end, within, small));
       looplets = looplets_made;
     }
 
@@ -176,7 +176,7 @@ module _ (l : Loop) (range : Option (ℕ × ℕ)) (line last next need : ℕ) (t
       subst (λ (ts : List ℕ). list_all (is_absent w r) ts ≡ true) (all_fresh_are w l.body l.here)
       (right (list_all (can_be_read w r e.rest.changed) e.rest.reads) (list_all (is_absent w r) (all_fresh body)) able) in
       let gone = among_all (is_absent w r) (fresh_in l.body) all t f in
-      let there_is = fresh_there l.body (within_loop q.scope l.var) (named l range true line last next need sourced numbered can q le at) t f in
+      let there_is = fresh_there l.body (within_loop q.scope l.var) (named l range true line last next need sourced numbered can.room q le at) t f in
       let lt : t < length l.checked.program.headers = subst (λ (hs : List Header). t < length hs) at.suits.stands.headers there_is in
       let stages = live.stages in
       let long = trails.long in (
@@ -186,10 +186,10 @@ module _ (l : Loop) (range : Option (ℕ × ℕ)) (line last next need : ℕ) (t
       )
 
   enters : EntersChunks l q top ends own r m (meaning_all (layout_with l.checked q.room) (entry_code_of l true next) m)
-  enters = behind_codes l range true line last next need sourced numbered can q le at r r' m ready trails live able whole refl refl refl is.looplets
+  enters = behind_codes l range true line last next need sourced numbered can.room q le at r r' m ready trails live able can.ordered whole refl refl refl is.looplets
       (EntersChunks l q top ends own r m)
       (λ paid. record {
-        left = left_there l range true line last next need sourced numbered can q le at r r' m ready trails live able whole refl refl refl is.looplets;
+        left = left_there l range true line last next need sourced numbered can.room q le at r r' m ready trails live able can.ordered whole refl refl refl is.looplets;
         pays = paid;
         absent = absent;
         stays = λ from count k a. parts_without w own l.context l.var true l.body l.here q.vars r from count k a;

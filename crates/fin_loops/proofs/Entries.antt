@@ -46,6 +46,7 @@ use Rattle.fin_drive.specs.Entries.{Entry, watches}
 use Rattle.fin_perform.specs.Layouts.{heads_in, layout_with, start_with}
 use Rattle.fin_perform.specs.Places.{AllMayBind}
 use Rattle.fin_enter.specs.Indices.{AreAround, small_offsets}
+use Rattle.fin_enter.specs.Bounds.{HaveNumbers}
 use Rattle.fin_enter.specs.Stores.{IsStoredAs}
 use Rattle.fin_enter.specs.Masked.{Tested, tested, tested_by, and_tested, tested_among, CanBound, AllCanBound}
 use Rattle.fin_enter.specs.LoopEntry.{behind_by, looplets_by}
@@ -59,7 +60,7 @@ use Rattle.fin_enter.proofs.Stores.{tensors_have_formats, tensors_are_stored}
 use Rattle.fin_loops.specs.Loops.{Loop, bound_in, rest_entered, slots_of, around, watching}
 use Rattle.fin_loops.specs.Entering.{stmt_of, Spot, StandsAt, world_at}
 use Rattle.fin_loops.specs.Parallel.{range_in}
-use Rattle.fin_loops.specs.Sourced.{Sourced, entry_code_of, CanBegin}
+use Rattle.fin_loops.specs.Sourced.{Sourced, entry_code_of}
 use Rattle.fin_loops.specs.Tops.{own_end, looplets_from, IsNumbered}
 use Rattle.fin_loops.proofs.Named.{Has, AllLoops, has_loop, reads_remain, accesses_named, tests_named}
 use Rattle.fin_loops.proofs.Rests.{rests_are, slots_are}
@@ -166,7 +167,7 @@ abbrev pub entry_in : Loop → Bool → Spot → Run → Machine → Entry
 entry_in l par q r m = part_in l par q r (seen m) m.locals (range_in l).0 ((range_in l).1 - (range_in l).0)
 
 module _ (l : Loop) (range : Option (ℕ × ℕ)) (par : Bool) (line last next need : ℕ) (sourced : Sourced l) (numbered : IsNumbered l next)
-    (can : CanBegin l range par line last next need) (q : Spot) (le : need ≤ q.room) (at : StandsAt l (stmt_of l range par line last) next q) where
+    (enough : own_end l next ≤ need) (q : Spot) (le : need ≤ q.room) (at : StandsAt l (stmt_of l range par line last) next q) where
   abbrev pub w : World
   w = world_at l q
 
@@ -235,7 +236,7 @@ module _ (l : Loop) (range : Option (ℕ × ℕ)) (par : Bool) (line last next n
   pub may : AllMayBind q.place (length q.vars) (bound_in l)
   may = subst (AllMayBind q.place (length q.vars)) (of_loop (List ℕ) bindings_step l.var range par l.body line last) at.suits.may_bind
 
-  var_below : l.var ≤ next
+  pub var_below : l.var ≤ next
   var_below = let below = may.0.below in let is = at.suits.next_is in omega (arith, below, is)
 
   pub top_small : (range_in l).1 ≤ 2 ^ 40
@@ -259,7 +260,7 @@ module _ (l : Loop) (range : Option (ℕ × ℕ)) (par : Bool) (line last next n
     numbers_are : (y : ℕ) → is_bound q.scope y ≡ true → number m.locals y ≡ number q.vars y
     numbers_are y b = sym (value_local (seen m) m.locals y) ∙ at.suits.stands.numbers m ready.facts y b
 
-    coordinates : AreAround big l.var q.vars m.locals
+    pub coordinates : AreAround big l.var q.vars m.locals
     coordinates y among lt =
         let outer = loop_around y among lt in
         let k = at.suits.coordinates y outer in
@@ -316,21 +317,35 @@ module _ (l : Loop) (range : Option (ℕ × ℕ)) (par : Bool) (line last next n
     pub looplets_told : entry_looplets h e next ≡ looplets_from l next
     looplets_told = ap (λ (z : Rest). looplets_by (record { heads = h; var = l.var; changed = z.changed }) z.reads z.tests next) told
 
-    pub can_be : CanEnter h big e next
-    can_be = record {
+    pub numbers_before : HaveNumbers big l.var q.vars m.locals
+    numbers_before y b lt = numbers_are y (bound_around y b lt)
+
+    pub room_there : behind_entry h e next ≤ length m.locals
+    room_there = let same = behind_told in let long = ready.locals in omega (arith, same, enough, le, long)
+
+    pub reads_drive : AllCanDrive h big e rest.reads
+    reads_drive =
+        all_drive rest.reads (reads_all _ (accesses_named big (within_loop q.scope l.var) has_inner l.body all_loops named l.here context))
+        (reads_all _ (reads_remain (λ (a : Access). small_offsets a.at) l.body l.here context sourced.small))
+        (reads_all _ (reads_remain (access_stays w.setting) l.body l.here context (sourced.stay q.inputs)))
+        (left (list_all (can_be_read w r rest.changed) rest.reads) (not par || list_all (is_absent w r) (all_fresh body)) able)
+
+    pub tests_bound : AllCanBound big l.var (tests_in e)
+    tests_bound =
+        all_bound big l.var rest.tests (ap (λ (z : Rest). list_all (λ (t : Test). is_named_expr t.expr big) z.tests) told
+        ∙ tests_named big (within_loop q.scope l.var) has_inner l.body all_loops named l.here context)
+
+    pub can_be : (range_in l).0 ≤ (range_in l).1 → CanEnter h big e next
+    can_be ordered = record {
       bound = may.0.counted;
-      ordered = can.ordered;
+      ordered = ordered;
       small = top_small;
       around = coordinates;
       after = var_below;
-      numbers = λ y b lt. numbers_are y (bound_around y b lt);
-      room = (let same = behind_told in let enough = can.room in let long = ready.locals in omega (arith, same, enough, le, long));
-      reads = all_drive rest.reads (reads_all _ (accesses_named big (within_loop q.scope l.var) has_inner l.body all_loops named l.here context))
-          (reads_all _ (reads_remain (λ (a : Access). small_offsets a.at) l.body l.here context sourced.small))
-          (reads_all _ (reads_remain (access_stays w.setting) l.body l.here context (sourced.stay q.inputs)))
-          (left (list_all (can_be_read w r rest.changed) rest.reads) (not par || list_all (is_absent w r) (all_fresh body)) able);
-      tests = all_bound big l.var rest.tests (ap (λ (z : Rest). list_all (λ (t : Test). is_named_expr t.expr big) z.tests) told
-          ∙ tests_named big (within_loop q.scope l.var) has_inner l.body all_loops named l.here context);
+      numbers = numbers_before;
+      room = room_there;
+      reads = reads_drive;
+      tests = tests_bound;
     }
 
     -- ---- the machine behind the entry's codes
@@ -339,18 +354,18 @@ module _ (l : Loop) (range : Option (ℕ × ℕ)) (par : Bool) (line last next n
     entered_at = record { entered = record { driven = refl; masks = refl }; store = refl; locals = refl; live = live }
 
     -- by a nest over the whole range
-    module _ (n : Nest Run) (lo : n.lo ≡ Num (pos (range_in l).0)) (hi : n.hi ≡ Num (pos (range_in l).1)) (does : n.body ≡ seen_turn (watching l w q.vars))
+    module _ (ordered : (range_in l).0 ≤ (range_in l).1) (n : Nest Run) (lo : n.lo ≡ Num (pos (range_in l).0)) (hi : n.hi ≡ Num (pos (range_in l).1)) (does : n.body ≡ seen_turn (watching l w q.vars))
         (reads : n.reads ≡ looplets_from l next) where
       is_nest : IsNestOf h e next n
       is_nest = record {
         lo = lo;
-        hi = (let ordered = can.ordered in let all : (range_in l).1 ≡ e.from + e.count = omega (arith, ordered) in hi ∙ ap (λ (k : ℕ). Num (pos k)) all);
+        hi = (let all : (range_in l).1 ≡ e.from + e.count = omega (arith, ordered) in hi ∙ ap (λ (k : ℕ). Num (pos k)) all);
         body = does ∙ turns_told r (seen m) m.locals e.from e.count;
         reads = reads ∙ sym looplets_told;
       }
 
       both : entry.Enters h e next n × RunsEntry h e next layout start [] r' m
-      both = entry_codes_enter (bounds_mean values_mean) h big e next n layout start [] r' m can_be is_nest entered_at (omega arith)
+      both = entry_codes_enter (bounds_mean values_mean) h big e next n layout start [] r' m (can_be ordered) is_nest entered_at (omega arith)
 
       pub entrance : IsEntrance (entered_by h e next) n
       entrance = both.0.entrance

@@ -1,5 +1,5 @@
 -- A loop of a program at a place: it is one of its family, and does what its turns do behind its entry.
-use Rattle.std.proofs.Common.{◌≡◌, ℕ, ◌<◌, ◌≤◌, ◌+◌, Bool, true, false, ◌&&◌, List, [], ◌∷◌, length, Option, Some, None, if◌then◌else◌, refl, sym, ap, ◌∙◌, subst, ℤ, pos, ◌^◌, arith}
+use Rattle.std.proofs.Common.{◌≡◌, ℕ, ◌<◌, ◌≤◌, ◌+◌, Bool, true, false, List, [], ◌∷◌, length, Option, Some, None, if◌then◌else◌, refl, sym, ap, ◌∙◌, subst, ℤ, pos, ◌^◌, arith}
 use Rattle.std.specs.Prelude.{nat_eq, unwrap_or, slice_index_or, ◌||◌}
 use Rattle.std.proofs.lemmas.Bool.Decides.{nat_tests}
 use borrow.Author.Differences.{at_most_in}
@@ -55,6 +55,17 @@ none_bound p count (v ∷ vs) a x e = elim (nat_eq x v) as (λ b. nat_eq x v ≡
 not_either : (a b : Bool) → (b ≡ true → a ≡ false) → a ≡ true → b ≡ false
 not_either a true h e = let f = h refl in cc
 not_either a false h e = refl
+
+-- codes that leave what is around a statement leave its place as it was
+pub left_around : (l : Loop) (x : Stmt) (next : ℕ) (q : Spot) → StandsAt l x next q → (cs : List Code) → SparesAll x l.here l.context next cs
+    → (m : Machine) → Left m (meaning_all (layout_with l.checked q.room) cs m) q.place
+left_around l x next q at cs spares m =
+    let k = spares (layout_with l.checked q.room) m in
+    record {
+      long = k.long;
+      kept = λ e y below free. k.locals e y (subst (λ (z : ℕ). y < z) at.suits.next_is below) (none_bound q.place (length q.vars) (bindings_of x) at.suits.may_bind y free);
+      steady = λ e t still. k.tensors e t (not_either (q.place.steady t) (changes x l.here l.context t) (at.suits.loose t) still);
+    }
 
 -- ---- pins: a variable in scope has its number
 
@@ -167,10 +178,4 @@ module _ (l : Loop) (range : Option (ℕ × ℕ)) (par : Bool) (line last next n
   -- ---- what is left as it was
 
   pub leaves : (cs : List Code) → SparesAll x l.here l.context next cs → (m : Machine) → Left m (meaning_all layout cs m) q.place
-  leaves cs spares m =
-      let k = spares layout m in
-      record {
-        long = k.long;
-        kept = λ e y below free. k.locals e y (subst (λ (z : ℕ). y < z) at.suits.next_is below) (none_bound q.place (length q.vars) (bindings_of x) at.suits.may_bind y free);
-        steady = λ e t still. k.tensors e t (not_either (q.place.steady t) (changes x l.here l.context t) (at.suits.loose t) still);
-      }
+  leaves cs spares m = left_around l x next q at cs spares m

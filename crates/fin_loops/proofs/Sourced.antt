@@ -21,9 +21,9 @@ entries_enter l range line last next need top sourced numbered is whole can q le
     let behind : Behind start r m = stands ((loop_advances l range false line last can.some q r).before fine) in
     let live = living start behind.run m ready.live behind.related in
     let able = can_enter l range false line last can.some q r fine in
-    let made = entrance l range false line last next need sourced numbered can q le at r behind.run m ready behind.trails live able nest whole.lo whole.hi refl is.looplets in
-    let left = left_there l range false line last next need sourced numbered can q le at r behind.run m ready behind.trails live able nest whole.lo whole.hi refl is.looplets in
-    behind_codes l range false line last next need sourced numbered can q le at r behind.run m ready behind.trails live able nest whole.lo whole.hi refl is.looplets
+    let made = entrance l range false line last next need sourced numbered can.room q le at r behind.run m ready behind.trails live able can.ordered nest whole.lo whole.hi refl is.looplets in
+    let left = left_there l range false line last next need sourced numbered can.room q le at r behind.run m ready behind.trails live able can.ordered nest whole.lo whole.hi refl is.looplets in
+    behind_codes l range false line last next need sourced numbered can.room q le at r behind.run m ready behind.trails live able can.ordered nest whole.lo whole.hi refl is.looplets
     (Enters l q top r m)
     (λ paid. record {
       left = left;
