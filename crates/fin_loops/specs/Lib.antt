@@ -9,6 +9,7 @@ pub mod Told
 pub mod Tops
 pub mod Sourced
 pub mod Sources
+pub mod Empty
 pub mod Fixed
 pub mod Chunked
 pub mod Facts

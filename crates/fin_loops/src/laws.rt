@@ -1,6 +1,7 @@
 //! What is proved of the code of loops.
 ghost use Rattle.fin_loops.specs.Chunked.{ChunksEnter};
 ghost use Rattle.fin_loops.specs.Chunks.{LoopsInChunks, OpenedStand};
+ghost use Rattle.fin_loops.specs.Empty.{EmptyLoopsMean};
 ghost use Rattle.fin_loops.specs.Entering.{LoopsMean};
 ghost use Rattle.fin_loops.specs.Facts.{NothingIsTold, PartsAreKnown, WordsAreTold};
 ghost use Rattle.fin_loops.specs.FactsPoints.{PointsAreTold};
@@ -143,4 +144,9 @@ pub fn words_are_told()
 /// coordinates, where no two of its looplets are for one driven read or one test.
 pub fn points_are_told()
     ensures { PointsAreTold }
+{}
+
+/// The codes of the entry of a loop whose range is empty or turned round mean the loop, parallel or not.
+pub fn empty_loops_mean()
+    ensures { EmptyLoopsMean }
 {}
