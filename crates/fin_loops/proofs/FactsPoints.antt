@@ -31,9 +31,10 @@ use Rattle.fin_descend.proofs.Lasting.{runs_keep_leaves}
 use Rattle.fin_known.specs.Telling.{leaf_fill, fill_told, truth_told, fill_at, truth_at, and_gap, gaps_told, and_test, tests_told, marks_told, slot_of, read_slots, slots_of}
 use Rattle.fin_known.proofs.Heads.{gaps_right, tests_right, gaps_both, tests_both}
 use Rattle.fin_loops.specs.Facts.{IsTruthOrGap, KnowsOf}
-use Rattle.fin_loops.specs.FactsPoints.{is_other, AreApart, IsKnown, PointsAreTold}
-use Rattle.fin_loops.specs.Loops.{Loop, around, slots}
+use Rattle.fin_loops.specs.FactsPoints.{IsKnown, PointsAreTold}
+use Rattle.fin_loops.specs.Loops.{Loop, around}
 use Rattle.fin_loops.specs.Points.{seen_bare, marks_by, AreSettled}
+use Rattle.fin_loops.proofs.FactsApart.{is_other, AreApart, slots_are_apart}
 use Rattle.fin_loops.proofs.Known.{both_runs, runs_flat, no_fill}
 
 -- ---- options and tests
@@ -234,9 +235,9 @@ module _ (ms : List Numbered) (h : EachRuns IsTruthOrGap (looplets ms)) where
 
 -- ---- the law
 
-module _ (l : Loop) (facts : Facts) (ds : List Bool) (n : Nest) (knows : KnowsOf l facts ds n) (apart : AreApart (slots l)) where
+module _ (l : Loop) (facts : Facts) (ds : List Bool) (n : Nest) (knows : KnowsOf l facts ds n) where
   apart_here : AreApart (slots_of ds n)
-  apart_here = subst AreApart knows.slots_are apart
+  apart_here = subst AreApart knows.slots_are (slots_are_apart l)
 
   module _ (flat : AllFlat (all_looplets n)) (masks : list_all is_run (looplets n.masks) ≡ true) where
     runs : EachRuns IsTruthOrGap (looplets n.masks)
@@ -264,7 +265,7 @@ last_runs [] ks e = e
 last_runs (l ∷ ls) ks e = last_runs ls ks (both_runs l (ls ++ ks) e).1
 
 pub points_are_told : PointsAreTold
-points_are_told l facts ds n knows apart = record {
-  flat = λ flat masks. known l facts ds n knows apart flat masks;
-  runs = λ runs. known l facts ds n knows apart (runs_flat (all_looplets n) runs) (last_runs (looplets n.reads) (looplets n.masks) runs);
+points_are_told l facts ds n knows = record {
+  flat = λ flat masks. known l facts ds n knows flat masks;
+  runs = λ runs. known l facts ds n knows (runs_flat (all_looplets n) runs) (last_runs (looplets n.reads) (looplets n.masks) runs);
 }

@@ -31,4 +31,6 @@ pub mod FreshThere
 pub mod Chunked
 pub mod FactsWords
 pub mod Facts
+pub mod FactsNumbers
+pub mod FactsApart
 pub mod FactsPoints

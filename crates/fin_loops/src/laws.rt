@@ -141,7 +141,7 @@ pub fn words_are_told()
 {}
 
 /// Along runs and lookups, of which the masks are runs, what a nest of a loop tells is what is known at each of its
-/// coordinates, where no two of its looplets are for one driven read or one test.
+/// coordinates.
 pub fn points_are_told()
     ensures { PointsAreTold }
 {}
