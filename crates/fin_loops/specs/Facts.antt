@@ -48,4 +48,5 @@ PartsAreKnown = (l : Loop) (facts : Facts) (ds : List Bool) (n : Nest) → 0 < w
 
 -- what is told is words
 abbrev pub WordsAreTold : Type 0
-WordsAreTold = (l : Loop) (facts : Facts) (ds : List Bool) (n : Nest) → KnowsOf l facts ds n → KnowsWords (marks_told facts ds n)
+WordsAreTold = (l : Loop) (facts : Facts) (ds : List Bool) (n : Nest) → KnowsOf l facts ds n
+    → KnowsWords (marks_told facts ds n)
