@@ -1,9 +1,11 @@
 -- The codes of the entry of a loop without coordinates mean it: behind its entry the loop does nothing.
 use Rattle.std.proofs.Common.{◌≡◌, ℕ, ◌+◌, ◌-◌, ◌≤◌, Bool, true, false, ◌&&◌, List, [], ◌∷◌, Option, Some, None, refl, sym, ap, ◌∙◌, subst, ℤ, pos, negsuc, arith}
-use Rattle.std.specs.Prelude.{not, is_none, ◌||◌, slice_index_or}
+use Rattle.std.specs.Prelude.{nat_lt, not, is_none, ◌||◌, slice_index_or}
+use Rattle.std.proofs.lemmas.Bool.Decides.{nat_tests}
 use Rattle.fin_ast.specs.declared.tree.Index.{Index}
+use Rattle.fin_ast.specs.Bindings.{bindings_of}
 use Rattle.fin_ast.specs.Dense.{Setting, shape_at}
-use Rattle.fin_ast.specs.Scope.{Scope, differ}
+use Rattle.fin_ast.specs.Scope.{Scope, differ, is_among}
 use Rattle.fin_ast.specs.Sizes.{leaves, range_at}
 use Rattle.fin_ir.specs.declared.expression.IExpr.TheVariants.{Num}
 use Rattle.fin_ir.specs.declared.code.Code.{Code}
@@ -36,13 +38,23 @@ use Rattle.fin_enter.proofs.Bounds.{bounds_mean}
 use Rattle.fin_enter.proofs.EntryCodes.{entry_codes_enter}
 use Rattle.fin_loops.specs.Loops.{Loop}
 use Rattle.fin_loops.specs.Empty.{IsEmpty, EmptyLoopsMean}
-use Rattle.fin_loops.specs.Entering.{stmt_of, Spot, StandsAt, world_at}
+use Rattle.fin_loops.specs.Entering.{SparesAll, stmt_of, Spot, StandsAt, world_at}
 use Rattle.fin_loops.specs.Parallel.{range_in}
 use Rattle.fin_loops.specs.Sourced.{Sourced, entry_code_of}
+use Rattle.fin_loops.specs.Sparing.{around_stmt}
 use Rattle.fin_loops.specs.Tops.{IsNumbered}
 use Rattle.fin_loops.proofs.Entries as entries
 use Rattle.fin_loops.proofs.Placing.{left_around}
+use Rattle.fin_loops.proofs.Sparing.{codes_spare}
+use Rattle.fin_loops.proofs.SparingEntries.{entries_spare}
 use Rattle.fin_loops.proofs.Turning as turning
+
+-- a number isn't before one that it reaches
+not_before : (y n : ℕ) → n ≤ y → nat_lt y n ≡ false
+not_before y n le = elim (nat_lt y n) as (λ b. nat_lt y n ≡ b → nat_lt y n ≡ false) [
+  | true ↦ (λ e. absurd (grind (arith, nat_tests)))
+  | false ↦ (λ e. e)
+] refl
 
 -- ---- without ranges
 
@@ -92,6 +104,9 @@ module _ (h : Heads) (sc : Scope) (e : Entry) where
   all_drive : (reads : List Access) → AllCanDrive h sc e reads → AllCanDrive h sc bare reads
   all_drive [] all = tt
   all_drive (a ∷ reads) all = (λ d is. one_drives a (all.0 d is), all_drive reads all.1)
+
+before_free : (y next : ℕ) → next ≤ y → (b : Bool) → (nat_lt y next && b) ≡ false
+before_free y next le b = ap (λ (c : Bool). c && b) (not_before y next le)
 
 module _ (l : Loop) (range : Option (ℕ × ℕ)) (par : Bool) (line last next need : ℕ) (sourced : Sourced l) (numbered : IsNumbered l next)
     (can : IsEmpty l range par line last next need) (q : Spot) (le : need ≤ q.room) (at : StandsAt l (stmt_of l range par line last) next q) where
@@ -173,6 +188,12 @@ module _ (l : Loop) (range : Option (ℕ × ℕ)) (par : Bool) (line last next n
 
   -- ---- and that is all
 
+  spares : SparesAll (stmt_of l range par line last) l.here l.context next codes
+  spares =
+      let x = stmt_of l range par line last in
+      let around = around_stmt x l.here l.context next in
+      codes_spare x l.here l.context next codes (entries_spare l par next around (λ y low. before_free y next low (not (is_among (bindings_of x) y))))
+
   none_is_left : (r : Run) → regular (does_loop r) ≡ true → does_loop r ≡ paid_in r
   none_is_left r fine =
       let x = turning.entering l range par line last can.some q r in
@@ -188,7 +209,7 @@ module _ (l : Loop) (range : Option (ℕ × ℕ)) (par : Bool) (line last next n
           let live = living start behind.run m ready.live behind.related in
           let able = turning.can_enter l range par line last can.some q r fine in
           subst (λ (z : Run). Behind start z (meaning_all layout codes m)) (sym (none_is_left r fine)) (pays r behind.run m ready behind.trails live able);
-      leaves = λ r m ready stands. left_around l (stmt_of l range par line last) next q at codes can.spares m;
+      leaves = λ r m ready stands. left_around l (stmt_of l range par line last) next q at codes spares m;
     };
     advances = turning.loop_advances l range par line last can.some q;
   }

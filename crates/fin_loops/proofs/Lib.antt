@@ -22,6 +22,7 @@ pub mod Sourced
 pub mod Sources
 pub mod SourcesSmall
 pub mod SourcesWhole
+pub mod SparingEntries
 pub mod Empty
 pub mod FixedTurns
 pub mod FixedFolds

@@ -3,18 +3,16 @@ use Rattle.std.specs.Prelude.{◌≡◌, ℕ, ◌≤◌, Bool, false, Option}
 use Rattle.fin_perform.specs.Meanings.{Means, stmt_deed}
 use Rattle.fin_perform.specs.Working.{nothing_in}
 use Rattle.fin_loops.specs.Loops.{Loop}
-use Rattle.fin_loops.specs.Entering.{stmt_of, SparesAll}
+use Rattle.fin_loops.specs.Entering.{stmt_of}
 use Rattle.fin_loops.specs.Parallel.{range_in}
 use Rattle.fin_loops.specs.Sourced.{Sourced, entry_code_of}
 use Rattle.fin_loops.specs.Tops.{own_end, IsNumbered}
 
--- Something is left of the loop, it has no coordinate, there is room for the locals of its entry, and the entry's codes leave
--- what is around the loop.
+-- Something is left of the loop, it has no coordinate, and there is room for the locals of its entry.
 pub record IsEmpty (l : Loop) (range : Option (ℕ × ℕ)) (par : Bool) (line last next need : ℕ) : Type 0 where
   pub some : nothing_in (stmt_of l range par line last) l.here l.context ≡ false
   pub empty : (range_in l).1 ≤ (range_in l).0
   pub room : own_end l next ≤ need
-  pub spares : SparesAll (stmt_of l range par line last) l.here l.context next (entry_code_of l par next)
 
 -- the codes of its entry mean it, parallel or not
 abbrev pub EmptyLoopsMean : Type 0

@@ -11,7 +11,7 @@ ghost use Rattle.fin_loops.specs.Parallel.{ParallelLoopsMean};
 ghost use Rattle.fin_loops.specs.Points.{PointsMean, LoopsGoOn};
 ghost use Rattle.fin_loops.specs.Sourced.{EntriesEnter};
 ghost use Rattle.fin_loops.specs.Sources.{ProgramsAreSources, SourcesAreHandedDown, SourcesOfLoops};
-ghost use Rattle.fin_loops.specs.Sparing.{CodesSpare};
+ghost use Rattle.fin_loops.specs.Sparing.{CodesSpare, EntriesSpare};
 ghost use Rattle.fin_loops.specs.Told.{NestsTold};
 ghost use Rattle.fin_loops.specs.Tops.{TopsAreSeparate, TopsHoldNoJumpers, TopsKeepOut};
 
@@ -64,6 +64,11 @@ pub fn nests_are_separate()
 /// Codes in which no code assigns a local or changes a tensor that is to stay leave these as they are, in any machine.
 pub fn codes_spare()
     ensures { CodesSpare }
+{}
+
+/// The codes of a loop's entry spare all locals before the first free one, and all tensors.
+pub fn entries_spare()
+    ensures { EntriesSpare }
 {}
 
 /// Along runs and lookups it is seen where the code is made whether nothing is left of a loop's body, and whether a nest may

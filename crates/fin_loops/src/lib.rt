@@ -21,9 +21,9 @@
 mod laws;
 
 pub use laws::{
-    chunks_enter, codes_spare, empty_loops_mean, entries_enter, fixed_means, loops_go_on,
-    loops_in_chunks, loops_mean, nests_are_separate, nests_told, nothing_is_told, opened_stand,
-    parallel_loops_mean, parts_are_known, points_are_told, points_mean, programs_are_sources,
-    sources_hand_down, sources_of_loops, tops_are_separate, tops_hold_no_jumpers, tops_keep_out,
-    words_are_told,
+    chunks_enter, codes_spare, empty_loops_mean, entries_enter, entries_spare, fixed_means,
+    loops_go_on, loops_in_chunks, loops_mean, nests_are_separate, nests_told, nothing_is_told,
+    opened_stand, parallel_loops_mean, parts_are_known, points_are_told, points_mean,
+    programs_are_sources, sources_hand_down, sources_of_loops, tops_are_separate,
+    tops_hold_no_jumpers, tops_keep_out, words_are_told,
 };
