@@ -47,11 +47,11 @@ joined family p l cs r each below e s layout b stands room n fills =
 
 -- ---- one nest more
 
-all_first : {X : Type 0} (P : X → Type 0) (xs : List X) (x : X) → All P (xs ++ x ∷ []) → All P xs
+pub all_first : {X : Type 0} (P : X → Type 0) (xs : List X) (x : X) → All P (xs ++ x ∷ []) → All P xs
 all_first P [] x a = All-nil P
 all_first P (y ∷ xs) x a = All-cons P y xs (All-head P y (xs ++ x ∷ []) a) (all_first P xs x (All-tail P y (xs ++ x ∷ []) a))
 
-all_last : {X : Type 0} (P : X → Type 0) (xs : List X) (x : X) → All P (xs ++ x ∷ []) → P x
+pub all_last : {X : Type 0} (P : X → Type 0) (xs : List X) (x : X) → All P (xs ++ x ∷ []) → P x
 all_last P [] x a = All-head P x [] a
 all_last P (y ∷ xs) x a = all_last P xs x (All-tail P y (xs ++ x ∷ []) a)
 

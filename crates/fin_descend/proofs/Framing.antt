@@ -201,7 +201,7 @@ module _ (s : Staying) where
   more : (c : Code) (cs : List Code) → spares s c ≡ true → Spared s cs → Spared s (c ∷ cs)
   more c cs h k = and_both (spares s c) (all_spare (map (spares s) cs)) h k
 
-  appended : (cs ds : List Code) → Spared s cs → Spared s ds → Spared s (cs ++ ds)
+  pub appended : (cs ds : List Code) → Spared s cs → Spared s ds → Spared s (cs ++ ds)
   appended [] ds h k = k
   appended (c ∷ cs) ds h k = more c (cs ++ ds) (left (spares s c) _ h) (appended cs ds (right (spares s c) _ h) k)
 

@@ -8,3 +8,5 @@ pub mod Lasting
 pub mod Cycle
 pub mod Sparing
 pub mod Framing
+pub mod Composing
+pub mod Holes

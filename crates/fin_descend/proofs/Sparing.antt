@@ -24,16 +24,16 @@ right false b e = cc
 -- ---- induction over code
 
 module _ (P : Code → Type 0) where
-  abbrev Held : Type 0
+  abbrev pub Held : Type 0
   Held = (x : Code) × P x
 
-  abbrev bare : List Held → List Code
+  abbrev pub bare : List Held → List Code
   bare ks = map (λ k. k.0) ks
 
-  abbrev plain : Code-F Held → Code-F Code
+  abbrev pub plain : Code-F Held → Code-F Code
   plain y = map-Code Held Code (λ k. k.0) y
 
-  by_nodes : ((y : Code-F Held) → P (roll-Code (plain y))) → (x : Code) → P x
+  pub by_nodes : ((y : Code-F Held) → P (roll-Code (plain y))) → (x : Code) → P x
   by_nodes f = ind-Code P (λ z y is. subst (λ (u : Code-F Code). P (roll-Code u)) is (f y))
 
 -- a code's node, by those of its parts

@@ -4,3 +4,4 @@ pub mod Promises
 pub mod Heads
 pub mod Jumpless
 pub mod Sparing
+pub mod Holes

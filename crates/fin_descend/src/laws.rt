@@ -2,6 +2,7 @@
 ghost use Rattle.fin_looplet.specs.declared.looplet.Leaf.{Leaf};
 ghost use Rattle.fin_descend.specs.Jumpless.{PartsAreOfLoop, JumplessDontJump};
 ghost use Rattle.fin_descend.specs.Leaves.{Lasting, PartsKeepLeaves, RunsKeepLeaves, LeafWorded, IsNumberOrGap};
+ghost use Rattle.fin_descend.specs.Holes.{FramesCompose, StepsHaveHoles};
 ghost use Rattle.fin_descend.specs.Sparing.{PartsSpare, FillsSpare, SparesLess};
 
 /// The parts of a nest of a loop without jumpers are nests of the loop without jumpers.
@@ -52,4 +53,14 @@ pub fn fills_spare()
 /// Code that leaves more as it is leaves less as it is.
 pub fn sparing_is_monotone()
     ensures { SparesLess }
+{}
+
+/// Codes for the holes of frames, which fill a frame, are codes in those frames, which then fill it.
+pub fn frames_compose()
+    ensures { FramesCompose }
+{}
+
+/// The frame of a step has a hole for each part.
+pub fn steps_have_holes()
+    ensures { StepsHaveHoles }
 {}

@@ -91,7 +91,7 @@ fn points_behind(frame: Code, nests: Items<Nest>, next: u32) -> Result<Split, Al
     Ok(Split { frame, nests, room })
 }
 
-fn copy(alloc: Global, nest: &Nest) -> Result<Nest, AllocError>
+pub(crate) fn copy(alloc: Global, nest: &Nest) -> Result<Nest, AllocError>
     ensures { IfOk result (λ q. q ≡ nest.now) }
 {
     let reads = copies(alloc, nest.reads.as_slice())?;
