@@ -10,3 +10,4 @@ pub mod Sparing
 pub mod Framing
 pub mod Composing
 pub mod Holes
+pub mod Flats

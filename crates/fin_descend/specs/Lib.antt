@@ -5,3 +5,4 @@ pub mod Heads
 pub mod Jumpless
 pub mod Sparing
 pub mod Holes
+pub mod Flat

@@ -9,6 +9,10 @@
 //! `proofs/Cycle.antt` has what each of its functions is proved by. `descend` is such a descent, for bodies whose
 //! codes are made by something else (`Bodies`): it shows that the lemmas are enough.
 //!
+//! Where they are made by something that would call back into the descent, it goes in two steps instead (`flatten`):
+//! first to a frame with a `Skip` for each leaf, which asks only what needs no code (`Asks`), and then the caller makes
+//! the codes of the leaves, one after another, and fills the frame with them (`specs/Flat.antt`).
+//!
 //! The caller chooses what may stand behind the nests (`specs/Promises.antt`): what the loop does in the runs of a
 //! program. The code then means the nest in values and charges, in each layout with the locals that the code needs.
 //! It does so where the body is nothing at the coordinates that jumpers may pass over (`Jumps` of `fin_nest`): who runs
@@ -21,6 +25,7 @@
 
 mod bodies;
 mod descending;
+mod flattening;
 mod laws;
 mod lowered;
 mod stepping;
@@ -29,9 +34,11 @@ mod weights;
 pub use bodies::Bodies;
 pub use descending::descend;
 pub use fin_style_point::Nest;
+pub use flattening::{Asks, Flat, Leaf, Told, flatten};
 pub use laws::{
     LeafProperty, fills_spare, frames_compose, jumpless_dont_jump, numbers_last, parts_are_of_loop,
-    parts_keep_leaves, runs_keep_leaves, sparing_is_monotone, steps_have_holes, steps_spare, words_last,
+    parts_keep_leaves, runs_keep_leaves, sparing_is_monotone, steps_have_holes, steps_spare,
+    words_last,
 };
 pub use lowered::{Known, Lowered, filled, greater, nothing};
 pub use stepping::{Split, step, take_first};
