@@ -2,8 +2,8 @@
 use Rattle.std.proofs.Common.{◌≡◌, ℕ, ◌+◌, ◌≤◌, List, [], ◌∷◌, ◌++◌, length, map, refl, sym, ap, subst, ◌∙◌, arith}
 use Rattle.fin_ir.specs.declared.code.Code.{Code, map-Code, roll-Code, fold-roll-Code}
 use Rattle.fin_ir.specs.declared.code.Code.TheOpen.{Code-F}
-use Rattle.fin_ir.specs.declared.code.Code.TheVariants.{Skip, Seq, Assign, When, StepLoop, ForLoop, ParLoop, Update, Declare, Freeze, Thaw, Charge}
-use Rattle.fin_ir.proofs.Nodes.{of_skip, of_seq, of_assign, of_when, of_step_loop, of_for_loop, of_par_loop, of_update, of_declare, of_freeze, of_thaw, of_charge}
+use Rattle.fin_ir.specs.declared.code.Code.TheVariants.{Seq, Assign, When, StepLoop, ForLoop, ParLoop, Update, Declare, Freeze, Thaw, Charge}
+use Rattle.fin_ir.proofs.Nodes.{of_seq, of_assign, of_when, of_step_loop, of_for_loop, of_par_loop, of_update, of_declare, of_freeze, of_thaw, of_charge}
 use Rattle.fin_nest.specs.Frames.{Filling, fill_each, filling_step, filling, fill}
 use Rattle.fin_nest.proofs.Filling.{filled_seq, filled_assign, filled_when, filled_step_loop, filled_for_loop, filled_par_loop}
 use Rattle.fin_descend.specs.Holes.{all_holes, holes_step, holes, filled_each, FramesCompose}

@@ -6,7 +6,6 @@ use Rattle.std.proofs.lemmas.List.{take_more, length-append}
 use Rattle.std.proofs.lemmas.List.Elements.{All-nil, All-cons, All-append}
 use Rattle.std.proofs.lemmas.Result.{IfOk-weaker}
 use Rattle.fin_ir.specs.declared.code.Code.{Code}
-use Rattle.fin_ir.specs.declared.code.Code.TheVariants.{Skip}
 use Rattle.fin_looplet.specs.Weight.{RunsAtPoint}
 use Rattle.fin_nest.specs.Courses.{nest_with, Meant}
 use Rattle.fin_nest.specs.Frames.{fill}
@@ -15,7 +14,6 @@ use Rattle.fin_nest.specs.Sparing.{Staying, all_spare, spares}
 use Rattle.fin_nest.proofs.Filling.{filled_skip}
 use Rattle.fin_style_point.specs.declared.nest.Nest.{Nest}
 use Rattle.fin_style_point.specs.Parts.{all_looplets, course_of}
-use Rattle.fin_descend.specs.declared.lowered.Known.TheVariants as known
 use Rattle.fin_descend.specs.declared.stepping.Split.{Split}
 use Rattle.fin_descend.specs.declared.flattening.Flat.{Flat}
 use Rattle.fin_descend.specs.declared.flattening.Leaf.{Leaf}
@@ -23,12 +21,12 @@ use Rattle.fin_descend.specs.declared.flattening.Leaf.TheVariants.{Point, Fixed,
 use Rattle.fin_descend.specs.declared.flattening.Told.{Told}
 use Rattle.fin_descend.specs.declared.flattening.Told.TheVariants as told
 use Rattle.fin_descend.specs.Parts.{weight_in, parts_of, frame_of}
-use Rattle.fin_descend.specs.Promises.{Family, MeansIn, Tells, Divides, StaySeparate, MeanEach}
+use Rattle.fin_descend.specs.Promises.{Family, MeansIn, Divides, StaySeparate, MeanEach}
 use Rattle.fin_descend.specs.Sparing.{KeepsTo}
 use Rattle.fin_descend.specs.Holes.{holes, filled_each}
 use Rattle.fin_descend.specs.Flat.{one_leaf, Tells_of, OfLeaf, AtPoint, LeafMeans, MeanLeaves, with_codes, FlatMeans, Flattens, FlattenEach, FlattensSplit}
 use Rattle.fin_descend.proofs.Composing.{fill_composes, filled_holes, frames_behind, all_of_behind}
-use Rattle.fin_descend.proofs.Descents.{nothing_means, stepped_means, joined, mean_more, all_first, all_last, heavy, all_taken, both_ok}
+use Rattle.fin_descend.proofs.Descents.{nothing_means, stepped_means, joined, mean_more, all_first, all_last, heavy, all_taken}
 use Rattle.fin_descend.proofs.Framing.{parts_spare, appended}
 use Rattle.fin_descend.proofs.Holes.{of_hole, step_holes}
 use Rattle.fin_descend.proofs.Sparing.{and_both, spared_skip, fills_spare}

@@ -1,11 +1,11 @@
 -- The frame of each step has as many holes as the step leaves parts.
-use Rattle.std.proofs.Common.{◌≡◌, ℕ, ◌+◌, List, [], ◌∷◌, ◌++◌, length, map, Bool, true, false, refl, ap, ◌∙◌, if◌then◌else◌, pos, arith}
+use Rattle.std.proofs.Common.{◌≡◌, ℕ, ◌+◌, List, [], ◌∷◌, ◌++◌, length, map, Bool, true, false, refl, ◌∙◌, if◌then◌else◌, pos, arith}
 use Rattle.std.proofs.lemmas.List.{length-map}
 use Rattle.fin_base.specs.declared.terms.Op.TheVariants as op
 use Rattle.fin_ir.specs.declared.expression.IExpr.{IExpr}
 use Rattle.fin_ir.specs.declared.expression.IExpr.TheVariants.{Num, Local, Two}
 use Rattle.fin_ir.specs.declared.code.Code.{Code}
-use Rattle.fin_ir.specs.declared.code.Code.TheVariants.{Skip, Seq, Assign, When, StepLoop, ForLoop}
+use Rattle.fin_ir.specs.declared.code.Code.TheVariants.{Skip, Seq, Assign, When, StepLoop}
 use Rattle.fin_ir.proofs.Nodes.{of_skip, of_seq, of_assign, of_when, of_step_loop, of_for_loop}
 use Rattle.fin_looplet.specs.declared.looplet.Walker.{Walker}
 use Rattle.fin_looplet.specs.Cut.{before}
@@ -20,8 +20,8 @@ use Rattle.fin_style_step.specs.declared.nest.Parts as along
 use Rattle.fin_style_step.specs.declared.nest.Kind.TheVariants as kind
 use Rattle.fin_style_step.specs.Steps as step
 use Rattle.fin_style_step.specs.Parts as steps
-use Rattle.fin_descend.specs.Parts.{as_stepping, as_point, parts_of, frame_of}
-use Rattle.fin_descend.specs.Holes.{all_holes, holes_step, holes, StepsHaveHoles}
+use Rattle.fin_descend.specs.Parts.{as_stepping, as_point}
+use Rattle.fin_descend.specs.Holes.{holes_step, holes, StepsHaveHoles}
 use Rattle.fin_descend.proofs.Loops.{by_if}
 use Rattle.fin_descend.proofs.Composing.{all_of}
 
