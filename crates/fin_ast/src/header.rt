@@ -2,6 +2,7 @@
 ghost use Rattle.std.specs.Prelude.{◌≡◌, IfOk, IsTrue, length};
 ghost use Rattle.fin_tensor.specs.Placement.{IsPlacedAs};
 ghost use Rattle.fin_ast.specs.Kinds.{is_input, has_length};
+ghost use Rattle.fin_ast.specs.Literals.{is_word};
 ghost use Rattle.fin_ast.specs.Placements.{IsPlacedAs-prop};
 
 use fin_tensor::{Duplicate, Format, Name, Nums};
@@ -16,7 +17,7 @@ pub enum Kind {
 }
 
 /// The header of a tensor: its kind, name and format, its shape where one is given, and its line. The format keeps the
-/// placement, and the shape has a number for each level.
+/// placement, the fill is a word, and the shape has a number for each level.
 #[derive(Debug, Drop)]
 pub struct Header {
     pub kind: Kind,
@@ -27,6 +28,7 @@ pub struct Header {
     pub ghost placed: { IsPlacedAs (is_input kind) format.levels format.wrap } by { IsPlacedAs-prop
         (is_input kind) format.levels format.wrap },
     pub ghost shaped: { IsTrue (has_length (length format.levels) shape) },
+    pub ghost worded: { IsTrue (is_word format.fill) },
 }
 
 impl Duplicate for Header {

@@ -1,9 +1,12 @@
 //! Expressions and statements.
+ghost use Rattle.std.specs.Prelude.{◌||◌, IsTrue, is_none};
+
 use fin_base::{Op, Proto, Reduce};
 use fin_tensor::Seq;
 use sqlite_items::{Boxed, Items};
 
-/// An index of an access: the sum of up to two variables of loops and a number.
+/// An index of an access: the sum of up to two variables of loops and a number. One that may not leave its extent names one
+/// variable at most.
 #[derive(Clone, Copy, Debug, PartialEq, Eq)]
 pub struct Index {
     pub proto: Proto,
@@ -12,6 +15,7 @@ pub struct Index {
     pub first: Option<u32>,
     pub second: Option<u32>,
     pub offset: i64,
+    pub ghost single: { IsTrue (loose || is_none second) },
 }
 
 /// An expression.

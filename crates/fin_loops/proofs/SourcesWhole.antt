@@ -13,7 +13,7 @@ use Rattle.fin_loops.specs.Sources.{ProgramsAreSources}
 use Rattle.fin_loops.proofs.SourcesSmall.{body_near}
 
 pub programs_are_sources : AcceptedStay → ProgramsAreSources
-programs_are_sources stay c accepted single =
+programs_are_sources stay c accepted =
     let p = c.program in
     let ranges : c.dims.ranges ≡ ranges_of accepted.extents.extent (places_in p) = ap (λ (d : Dims). d.ranges) accepted.extents.numbers in
     let enough : 0 + length (bindings_of_all p.body) ≤ variables_in c = omega (arith, ap length ranges, ranges_count accepted.extents.extent p.body) in
@@ -22,6 +22,6 @@ programs_are_sources stay c accepted single =
       worded = p.worded;
       counts = p.numbered;
       within = enough;
-      stay = λ inputs. stay c inputs accepted single;
+      stay = λ inputs. stay c inputs accepted;
       small = (body_near p.body [] outset none).1;
     }

@@ -14,7 +14,6 @@ use Rattle.fin_ast.specs.Literals.{are_worded}
 use Rattle.fin_simp.specs.Moving.{ReadsStay}
 use Rattle.fin_simp.specs.Numbered.{Here, outset, behind, behind_test, past_all, past_stmt}
 use Rattle.fin_simp.specs.Rest.{Access}
-use Rattle.fin_simp.specs.Staying.{AreSingle}
 use Rattle.fin_perform.specs.Layouts.{variables_in}
 use Rattle.fin_perform.specs.Places.{left_of_all}
 use Rattle.fin_enter.specs.Indices.{small_offsets}
@@ -36,9 +35,9 @@ pub record IsSource (c : Checked) (xs : List Stmt) (h : Here) (v : ℕ) : Type 0
   pub stay : (inputs : List Storage) → ReadsStay (setting_of c inputs) xs h
   pub small : list_all has_small_offsets (left_of_all xs h None).reads ≡ true
 
--- an accepted program, where plain indices name one variable at most
+-- an accepted program
 abbrev pub ProgramsAreSources : Type 0
-ProgramsAreSources = (c : Checked) → IsAccepted c → AreSingle c → IsSource c c.program.body outset 0
+ProgramsAreSources = (c : Checked) → IsAccepted c → IsSource c c.program.body outset 0
 
 -- ---- handed down
 

@@ -122,8 +122,7 @@ pub fn sources_of_loops()
     ensures { SourcesOfLoops }
 {}
 
-/// The body of an accepted program, whose plain indices name one variable at most, has what a lowering has to know of
-/// statements.
+/// The body of an accepted program has what a lowering has to know of statements.
 pub fn programs_are_sources()
     ensures { ProgramsAreSources }
 {

@@ -1,4 +1,4 @@
--- Reads that are written in an accepted program stay, where plain indices name one variable at most.
+-- Reads that are written in an accepted program stay, since plain indices name one variable at most.
 use Rattle.std.proofs.Common.{◌≡◌, ℕ, zero, suc, ◌+◌, ◌*◌, ◌<◌, ◌≤◌, Bool, true, false, not, ◌&&◌, ◌||◌, List, [], ◌∷◌, ◌++◌, length, None, refl, sym, ap, ◌∙◌, arith, subst, append_assoc}
 use Rattle.std.proofs.lemmas.List.{append-nil}
 use Rattle.std.specs.Prelude.{slice_get, slice_index_or, is_none, ◌==◌}
@@ -17,7 +17,7 @@ use Rattle.fin_ast.proofs.Unbroken.{first_none, second_none}
 use Rattle.fin_simp.specs.Numbered.{outset, numbered_all}
 use Rattle.fin_simp.specs.Rest.{Access, Rest, all_written, written_step}
 use Rattle.fin_simp.specs.Moving.{all_stay, access_stays}
-use Rattle.fin_simp.specs.Staying.{is_single, AcceptedStay}
+use Rattle.fin_simp.specs.Staying.{AcceptedStay}
 use Rattle.fin_simp.proofs.Origins.{left_true, right_true}
 use Rattle.fin_simp.proofs.Extents.{leaves_at, uses_stay, is_sized, good, body_good}
 
@@ -68,20 +68,20 @@ index_stays false loose single out a s o = let x : false ≡ true = a in cc
 
 module _ (w : Setting) (extent : Extents) (dims : w.dims.shapes ≡ shapes_from extent 0 w.headers []) where
   indices_stay : (d k count : ℕ) (shape : List ℕ) → ((j : ℕ) → j < count → slice_index_or shape j 0 ≡ number_of extent (Dimension (d + j))) → (at : List Index) → k + length at ≤ count
-      → list_all differs at ≡ true → list_all is_single at ≡ true → uses_stay extent w.dims.ranges (d + k) at ≡ true → all_stay w shape k at ≡ true
-  indices_stay d k count shape at_level [] le a s u = refl
-  indices_stay d k count shape at_level (i ∷ at) le a s u =
+      → list_all differs at ≡ true → uses_stay extent w.dims.ranges (d + k) at ≡ true → all_stay w shape k at ≡ true
+  indices_stay d k count shape at_level [] le a u = refl
+  indices_stay d k count shape at_level (i ∷ at) le a u =
       let n = slice_index_or shape k 0 in
       let next : d + k + 1 ≡ d + (k + 1) = omega arith in
       let out = left_true (not (leaves_at extent w.dims.ranges (d + k) i)) (uses_stay extent w.dims.ranges (d + k + 1) at) u in
       let rest = subst (λ (j : ℕ). uses_stay extent w.dims.ranges j at ≡ true) next (right_true (not (leaves_at extent w.dims.ranges (d + k) i)) (uses_stay extent w.dims.ranges (d + k + 1) at) u) in
       let here : not (not i.loose && leaves i.offset (range_at w.dims.ranges i.first) n) ≡ true
       = ap (λ (m : ℕ). not (not i.loose && leaves i.offset (range_at w.dims.ranges i.first) m)) (at_level k (omega (arith, le))) ∙ out in
-      ap (λ b. b && all_stay w shape (k + 1) at) (index_stays (differs i) i.loose (is_none i.second) (leaves i.offset (range_at w.dims.ranges i.first) n) (left_true (differs i) (list_all differs at) a) (left_true (is_single i) (list_all is_single at) s) here)
-      ∙ indices_stay d (k + 1) count shape at_level at (omega (arith, le)) (right_true (differs i) (list_all differs at) a) (right_true (is_single i) (list_all is_single at) s) rest
+      ap (λ b. b && all_stay w shape (k + 1) at) (index_stays (differs i) i.loose (is_none i.second) (leaves i.offset (range_at w.dims.ranges i.first) n) (left_true (differs i) (list_all differs at) a) i.single here)
+      ∙ indices_stay d (k + 1) count shape at_level at (omega (arith, le)) (right_true (differs i) (list_all differs at) a) rest
 
-  access_all : (a : Access) → good extent w.dims.ranges w.headers a ≡ true → list_all is_single a.at ≡ true → access_stays w a ≡ true
-  access_all a g s =
+  access_all : (a : Access) → good extent w.dims.ranges w.headers a ≡ true → access_stays w a ≡ true
+  access_all a g =
       let sized = left_true (is_sized extent w.dims.ranges w.headers a.tensor a.at) (list_all differs a.at && uses_stay extent w.dims.ranges (8 * a.tensor) a.at) g in
       let two = right_true (is_sized extent w.dims.ranges w.headers a.tensor a.at) (list_all differs a.at && uses_stay extent w.dims.ranges (8 * a.tensor) a.at) g in
       let apart = left_true (list_all differs a.at) (uses_stay extent w.dims.ranges (8 * a.tensor) a.at) two in
@@ -93,16 +93,16 @@ module _ (w : Setting) (extent : Extents) (dims : w.dims.shapes ≡ shapes_from 
       let levels : length a.at ≡ length found.0.format.levels = equal (length a.at) (length found.0.format.levels) found.2 in
       indices_stay (8 * a.tensor) 0 (length found.0.format.levels) (shape_at w a.tensor)
       (λ j h. ap (λ (ns : List ℕ). slice_index_or ns j 0) shape ∙ extent_at extent (8 * a.tensor) found.0.format.levels j h)
-      a.at (omega (arith, levels)) apart s (subst (λ (j : ℕ). uses_stay extent w.dims.ranges j a.at ≡ true) begin uses)
+      a.at (omega (arith, levels)) apart (subst (λ (j : ℕ). uses_stay extent w.dims.ranges j a.at ≡ true) begin uses)
 
-  reads_all : (reads : List Access) → list_all (good extent w.dims.ranges w.headers) reads ≡ true → list_all (λ (a : Access). list_all is_single a.at) reads ≡ true → list_all (access_stays w) reads ≡ true
-  reads_all [] g s = refl
-  reads_all (a ∷ reads) g s =
-      ap (λ b. b && list_all (access_stays w) reads) (access_all a (left_true (good extent w.dims.ranges w.headers a) (list_all (good extent w.dims.ranges w.headers) reads) g) (left_true (list_all is_single a.at) (list_all (λ (x : Access). list_all is_single x.at) reads) s))
-      ∙ reads_all reads (right_true (good extent w.dims.ranges w.headers a) (list_all (good extent w.dims.ranges w.headers) reads) g) (right_true (list_all is_single a.at) (list_all (λ (x : Access). list_all is_single x.at) reads) s)
+  reads_all : (reads : List Access) → list_all (good extent w.dims.ranges w.headers) reads ≡ true → list_all (access_stays w) reads ≡ true
+  reads_all [] g = refl
+  reads_all (a ∷ reads) g =
+      ap (λ b. b && list_all (access_stays w) reads) (access_all a (left_true (good extent w.dims.ranges w.headers a) (list_all (good extent w.dims.ranges w.headers) reads) g))
+      ∙ reads_all reads (right_true (good extent w.dims.ranges w.headers a) (list_all (good extent w.dims.ranges w.headers) reads) g)
 
 pub accepted_stay : AcceptedStay
-accepted_stay c inputs accepted single =
+accepted_stay c inputs accepted =
     let found = accepted.extents in
     let extent = found.extent in
     let p = c.program in
@@ -110,4 +110,4 @@ accepted_stay c inputs accepted single =
     let same : c.dims ≡ dims_in extent p = found.numbers in
     let none : first_of (outside extent c.dims.ranges) (places_in p) ≡ None = ap (λ (d : Dims). first_of (outside extent d.ranges) (places_in p)) same ∙ out in
     let reads = body_good extent c.dims.ranges p.body (outermost p.headers) [] outset p.named none in
-    reads_all (setting_of c inputs) extent (ap (λ (d : Dims). d.shapes) same) (all_written (numbered_all Rest written_step p.body outset)).reads reads.1 single
+    reads_all (setting_of c inputs) extent (ap (λ (d : Dims). d.shapes) same) (all_written (numbered_all Rest written_step p.body outset)).reads reads.1
