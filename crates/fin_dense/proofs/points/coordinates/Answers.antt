@@ -1,4 +1,4 @@
-use Rattle.std.proofs.Common.{◌≡◌, Some, Option, map, ◌∙◌, sym, ◌⊎◌, get_or, pos, arith, inl, inr, List, ℕ}
+use Rattle.std.proofs.Common.{◌≡◌, Some, Option, map, ◌∙◌, sym, ap, ◌⊎◌, get_or, pos, arith, inl, inr, List, ℕ}
 use Rattle.std.proofs.lemmas.Grind.{common_steps}
 use Rattle.std.specs.Prelude.{◌<ℤ◌, ◌≤ℤ◌}
 use Rattle.std.proofs.lemmas.List.{length-map}
@@ -19,12 +19,12 @@ returns-then-c-lt0-clause-value c =
       | then-c-lt0-via-then-c-lt0 w ↦ inl (omega (arith, ints, w.if-c-lt0.true))
       | then-c-lt0-via-else-c-lt0+then-c-shape w ↦ inr (omega (arith, ints, w.if-c-shape.true, c.type_inv.shape c.loop-k.k))
     ] in
-    fails _ _ _ c.loop-k.k _ c.loop-k.found _ (omega arith) (omega arith) c.loop-k.invariant.so_far c.place-c.result c.place-c.ensures out
+    fails _ _ _ c.loop-k.k c.index-at-k.result c.loop-k.found _ (omega arith) (omega arith) c.loop-k.invariant.so_far c.place-c.result (c.place-c.ensures ∙ ap (place c.args.vars.now) c.index-at-k.is) out
 
 pub loop-k-preserved : goal.loop-k-preserved
 loop-k-preserved c = record {
   even = c.loop-k.invariant.even;
-  so_far = rw c.in_ok-push.ensures.ok (goes c.args.shape.now c.args.at.now c.args.vars.now c.loop-k.k _ c.loop-k.found _ (omega arith) (omega arith) c.loop-k.invariant.so_far c.place-c.result _ c.place-c.ensures (omega (arith, ints, c.if-c-lt0.false, c.place-c.type_inv)) (omega (arith, ints, c.if-c-lt0.false, c.if-c-shape.false, c.type_inv.shape c.loop-k.k, c.place-c.type_inv)));
+  so_far = rw c.in_ok-push.ensures.ok (goes c.args.shape.now c.args.at.now c.args.vars.now c.loop-k.k c.index-at-k.result c.loop-k.found _ (omega arith) (omega arith) c.loop-k.invariant.so_far c.place-c.result _ (c.place-c.ensures ∙ ap (place c.args.vars.now) c.index-at-k.is) (omega (arith, ints, c.if-c-lt0.false, c.place-c.type_inv)) (omega (arith, ints, c.if-c-lt0.false, c.if-c-shape.false, c.type_inv.shape c.loop-k.k, c.place-c.type_inv)));
 }
 
 pub returns-clause-inside : goal.returns-clause-inside
