@@ -21,7 +21,7 @@ use Rattle.fin_parse.specs.declared.tree.Tree.TheOpen.{Tree-F}
 use Rattle.fin_parse.specs.declared.tree.Room.{Room}
 use Rattle.fin_parse.specs.Choices.{same_class}
 use Rattle.fin_parse.specs.Classes.{class_of}
-use Rattle.fin_parse.specs.Elaboration.{Elaboration, elaboration_of, elaboration_step, plus_word, minus_word}
+use Rattle.fin_parse.specs.Elaboration.{plain, loose, with_protocol, Elaboration, elaboration_of, elaboration_step, plus_word, minus_word}
 use Rattle.fin_parse.specs.Fills.{is_declares, number_of, literal_of}
 use Rattle.fin_parse.specs.Grammar.{phrase_of, row_of}
 use Rattle.fin_parse.specs.Leaves.{Leaves, leaves_of, leaves_step}
@@ -124,6 +124,7 @@ module _ (text : List ℕ) (fills : List Fill) where
   -- ---- every form
 
   step : (k : Room) (f : Form) (x : List Sign) (us : List Tree) → Parts Holds k (row_of f) x us → Keeps text fills (phrase_of f) (Node f us)
+  unfolding plain loose with_protocol
   step k form.PlusInt x us h = at1 Holds k x us (λ (ts : List Tree). IsLiteral text fills (Node form.PlusInt ts)) (Word class.Number) h (λ p u e a. subst (λ (w : Tree). IsLiteral text fills (Node form.PlusInt (w ∷ []))) (sym a.2) (plus_int a.0))
   step k form.MinusInt x us h = at2 Holds k x us (λ (ts : List Tree). IsLiteral text fills (Node form.MinusInt ts)) (Word class.Minus) (One phrase.Magnitude) h (λ p q u v e a b. subst (λ (w : Tree). IsLiteral text fills (Node form.MinusInt (w ∷ v ∷ []))) (sym a.2) (minus_int a.0 v b))
   step k form.Magnitude x us h = at1 Holds k x us (λ (ts : List Tree). IsMagnitude text fills (Node form.Magnitude ts)) (Word class.Number) h (λ p u e a. subst (λ (w : Tree). IsMagnitude text fills (Node form.Magnitude (w ∷ []))) (sym a.2) (magnitude form.Magnitude a.0))

@@ -149,6 +149,7 @@ module _ (text : List ℕ) (fills : List Fill) where
   constant_index f us is c g quiet = ap (is_index c.around) (node_index f us c.naming) ∙ is c
 
   pub shifted : (t : Token) (v : Tree) → IsIndex text fills (Node form.Shifted (Leaf t ∷ v ∷ []))
+  unfolding plain
   shifted t v c g quiet =
       let own : loop_use t (bound_named text c.scope.bound t) ≡ [] = subst (λ (o : Option Token). named_breaches text IndexName o (facts v).count c.scope ≡ []) (leaf_token t) (own_quiet text form.Shifted (Leaf t ∷ v ∷ []) c.scope quiet) in
       ap (is_index c.around) (node_index form.Shifted (Leaf t ∷ v ∷ []) c.naming)
@@ -161,6 +162,7 @@ module _ (text : List ℕ) (fills : List Fill) where
   node_behind f us s o = ap (λ (e : Elaboration). e.behind s o) (of_node Elaboration (elaboration_step text) f us)
 
   pub behind_nothing : (f : Form) (us : List Tree) → ((s : Naming) (o : Option ℕ) → (n : ℤ) × (behind_at text f (map elaboration us) s o ≡ loose o None n)) → IsBehind text fills (Node f us)
+  unfolding loose
   behind_nothing f us is c g quiet name begun h =
       let (n, e) = is c.naming (variable_number text c.naming (Some name)) in
       ap (is_index c.around) (node_behind f us c.naming (variable_number text c.naming (Some name)) ∙ e) ∙ one_index text fills c g (variable_number text c.naming (Some name)) h
@@ -174,6 +176,7 @@ module _ (text : List ℕ) (fills : List Fill) where
   unbegun false name r h = (refl, h)
 
   pub added_name : (t : Token) (v : Tree) → IsBehind text fills (Node form.AddedName (Leaf t ∷ v ∷ []))
+  unfolding loose
   added_name t v c g quiet name begun k =
       let own : own_breaches text AddedName t (facts v).count c.scope ≡ [] = subst (λ (o : Option Token). named_breaches text AddedName o (facts v).count c.scope ≡ []) (leaf_token t) (own_quiet text form.AddedName (Leaf t ∷ v ∷ []) c.scope quiet) in
       let (other, loops) = unbegun (is_begun text c.scope.begun t) t (loop_use t (bound_named text c.scope.bound t)) own in
@@ -190,6 +193,7 @@ module _ (text : List ℕ) (fills : List Fill) where
 
   begun_behind : (k : Room) (x : List Sign) (v : Tree) → Kept Holds k (Maybe phrase.LooseRest) x v → (c : Context) → Agrees text fills c → (t : Token) → is_loop c.around (variable_number text c.naming (Some t)) ≡ true → (facts v).breaches (with_begun c.scope t) ≡ []
       → is_index c.around ((elaboration v).behind c.naming (variable_number text c.naming (Some t))) ≡ true
+  unfolding loose
   begun_behind k x v (inl (e, is)) c g t h quiet =
       ap (λ (w : Tree). is_index c.around ((elaboration w).behind c.naming (variable_number text c.naming (Some t)))) is
       ∙ ap (is_index c.around) (nothing_behind c (variable_number text c.naming (Some t)) h g) ∙ one_index text fills c g (variable_number text c.naming (Some t)) h

@@ -13,7 +13,7 @@ use Rattle.fin_ast.specs.Headers.{names_of}
 use Rattle.fin_ast.specs.Bindings.{counts_from, bindings_of_all}
 use Rattle.fin_ast.specs.Scope.{are_named, outermost}
 use Rattle.fin_ast.specs.Depth.{IsShallow}
-use Rattle.fin_ast.specs.Literals.{are_worded}
+use Rattle.fin_ast.specs.Literals.{is_word, are_worded}
 use Rattle.fin_tensor.specs.declared.format.Format.{Format}
 use Rattle.fin_ast.specs.declared.header.Header.{Header}
 use Rattle.fin_ast.specs.declared.program.Program.{Program}
@@ -39,25 +39,31 @@ Placed kind format = IsPlacedAs (is_input kind) format.levels format.wrap
 abbrev Shaped : Format → Option (List ℕ) → Type 0
 Shaped format shape = IsTrue (has_length (length format.levels) shape)
 
-abbrev made_header : (kind : Kind) (name : List ℕ) (format : Format) (shape : Option (List ℕ)) (line : ℕ) → Placed kind format → Shaped format shape → Header
-made_header kind name format shape line p s = record { kind = kind; name = name; format = format; shape = shape; line = line; placed = p; shaped = s }
+-- what a header says of its format and shape
+record Fitting (kind : Kind) (format : Format) (shape : Option (List ℕ)) : Type 0 where
+  placed : Placed kind format
+  shaped : Shaped format shape
+  worded : IsTrue (is_word format.fill)
 
-placed_prop : (kind : Kind) (format : Format) → IsProp (Placed kind format)
-placed_prop kind format = IsPlacedAs-prop (is_input kind) format.levels format.wrap
+abbrev made_header : (kind : Kind) (name : List ℕ) (format : Format) (shape : Option (List ℕ)) (line : ℕ) → Fitting kind format shape → Header
+made_header kind name format shape line p = record { kind = kind; name = name; format = format; shape = shape; line = line; placed = p.placed; shaped = p.shaped; worded = p.worded }
 
-shaped_prop : (format : Format) (shape : Option (List ℕ)) → IsProp (Shaped format shape)
-shaped_prop format shape = hlevel props
+abbrev fitting_of : (a : Header) → Fitting a.kind a.format a.shape
+fitting_of a = record { placed = a.placed; shaped = a.shaped; worded = a.worded }
+
+fitting_prop : (kind : Kind) (format : Format) (shape : Option (List ℕ)) → IsProp (Fitting kind format shape)
+fitting_prop kind format shape = hlevel (props, IsPlacedAs-prop (is_input kind) format.levels format.wrap)
 
 same_header : (a b : Header) → a.kind ≡ b.kind → a.name ≡ b.name → a.format ≡ b.format → a.shape ≡ b.shape → a.line ≡ b.line → a ≡ b
 same_header a b h k l m n =
-    let base : (p : Placed a.kind a.format) (s : Shaped a.format a.shape) → a ≡ made_header a.kind a.name a.format a.shape a.line p s =
-    λ p s. ap (λ q. made_header a.kind a.name a.format a.shape a.line q a.shaped) (placed_prop a.kind a.format a.placed p) ∙ ap (λ q. made_header a.kind a.name a.format a.shape a.line p q) (shaped_prop a.format a.shape a.shaped s) in
-    let kinds = subst (λ kind. (p : Placed kind a.format) (s : Shaped a.format a.shape) → a ≡ made_header kind a.name a.format a.shape a.line p s) h base in
-    let names = subst (λ name. (p : Placed b.kind a.format) (s : Shaped a.format a.shape) → a ≡ made_header b.kind name a.format a.shape a.line p s) k kinds in
-    let formats = subst (λ format. (p : Placed b.kind format) (s : Shaped format a.shape) → a ≡ made_header b.kind b.name format a.shape a.line p s) l names in
-    let shapes = subst (λ shape. (p : Placed b.kind b.format) (s : Shaped b.format shape) → a ≡ made_header b.kind b.name b.format shape a.line p s) m formats in
-    let lines = subst (λ line. (p : Placed b.kind b.format) (s : Shaped b.format b.shape) → a ≡ made_header b.kind b.name b.format b.shape line p s) n shapes in
-    lines b.placed b.shaped
+    let base : (p : Fitting a.kind a.format a.shape) → a ≡ made_header a.kind a.name a.format a.shape a.line p =
+    λ p. ap (made_header a.kind a.name a.format a.shape a.line) (fitting_prop a.kind a.format a.shape (fitting_of a) p) in
+    let kinds = subst (λ kind. (p : Fitting kind a.format a.shape) → a ≡ made_header kind a.name a.format a.shape a.line p) h base in
+    let names = subst (λ name. (p : Fitting b.kind a.format a.shape) → a ≡ made_header b.kind name a.format a.shape a.line p) k kinds in
+    let formats = subst (λ format. (p : Fitting b.kind format a.shape) → a ≡ made_header b.kind b.name format a.shape a.line p) l names in
+    let shapes = subst (λ shape. (p : Fitting b.kind b.format shape) → a ≡ made_header b.kind b.name b.format shape a.line p) m formats in
+    let lines = subst (λ line. (p : Fitting b.kind b.format b.shape) → a ≡ made_header b.kind b.name b.format b.shape line p) n shapes in
+    lines (fitting_of b)
 
 header_is : (text : List ℕ) (p : HeadParts) (a b : Header) → IsHeader text p a → IsHeader text p b → a ≡ b
 header_is text p a b h k = same_header a b (h.kind ∙ sym k.kind) (h.name ∙ sym k.name) (same_format a.format b.format (h.levels ∙ sym k.levels) (h.wrap ∙ sym k.wrap) (h.fill ∙ sym k.fill)) (h.shape ∙ sym k.shape) (h.line ∙ sym k.line)

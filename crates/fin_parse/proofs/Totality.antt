@@ -5,6 +5,7 @@ use Rattle.std.proofs.lemmas.List.Elements.{All-head, All-tail}
 use Rattle.fin_base.specs.declared.refusal.Refusal.{Refusal}
 use Rattle.fin_ast.specs.declared.header.Header.{Header}
 use Rattle.fin_ast.specs.declared.program.Program.{Program}
+use Rattle.fin_ast.proofs.Wording.{by_word}
 use Rattle.fin_lex.specs.declared.token.Token.{Token}
 use Rattle.fin_parse.specs.declared.tree.Tree.{Tree}
 use Rattle.fin_parse.specs.declared.trees.Text.{Text}
@@ -37,6 +38,7 @@ header_made text parts sound = (
     line = line_of parts.kind;
     placed = sound.placed;
     shaped = sound.shaped;
+    worded = by_word (integer_of (given_fill parts.fill)) sound.fill;
   },
   record { kind = refl; name = refl; levels = refl; wrap = refl; fill = refl; shape = refl; line = refl },
 )

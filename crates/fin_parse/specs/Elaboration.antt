@@ -1,5 +1,5 @@
 -- What the trees of the grammar stand for: indices, expressions and statements, in which tensors and variables are numbers.
-use Rattle.std.specs.Prelude.{ℕ, ◌+◌, ℤ, pos, Bool, true, false, if◌then◌else◌, List, [], ◌∷◌, ◌++◌, map, Option, Some, None, slice_get, unwrap_or, neg_ℤ}
+use Rattle.std.specs.Prelude.{ℕ, ◌+◌, ℤ, pos, Bool, true, false, if◌then◌else◌, List, [], ◌∷◌, ◌++◌, map, Option, Some, None, slice_get, unwrap_or, neg_ℤ, refl}
 use Rattle.std.specs.List.{find, flat_map}
 use Rattle.fin_base.specs.declared.terms.Op.{Op}
 use Rattle.fin_base.specs.declared.terms.Op.TheVariants.{Add, Sub, Mul}
@@ -87,14 +87,14 @@ plus_word n = wrap (pos n)
 abbrev pub minus_word : ℕ → ℤ
 minus_word n = wrap (neg_ℤ (pos n))
 
-abbrev pub plain : Option ℕ → ℤ → Index
-plain first offset = record { proto = Walk; loose = false; first = first; second = None; offset = offset }
+unfoldable pub plain : Option ℕ → ℤ → Index
+plain first offset = record { proto = Walk; loose = false; first = first; second = None; offset = offset; single = refl }
 
-abbrev pub loose : Option ℕ → Option ℕ → ℤ → Index
-loose first second offset = record { proto = Walk; loose = true; first = first; second = second; offset = offset }
+unfoldable pub loose : Option ℕ → Option ℕ → ℤ → Index
+loose first second offset = record { proto = Walk; loose = true; first = first; second = second; offset = offset; single = refl }
 
-abbrev pub with_protocol : Option Token → Index → Index
-with_protocol t i = record { proto = proto_of t; loose = i.loose; first = i.first; second = i.second; offset = i.offset }
+unfoldable pub with_protocol : Option Token → Index → Index
+with_protocol t i = record { proto = proto_of t; loose = i.loose; first = i.first; second = i.second; offset = i.offset; single = i.single }
 
 abbrev pub line_of : Option Token → ℕ
 line_of None = 0

@@ -208,6 +208,7 @@ impl<'a> Naming<'a> {
     }
 }
 
+#[tactic(auto, unfolding(crate::specs::Elaboration::plain))]
 fn plain(first: Option<u32>, offset: i64) -> Index
     ensures value { result ≡ spec.plain first offset }
 {
@@ -220,6 +221,7 @@ fn plain(first: Option<u32>, offset: i64) -> Index
     }
 }
 
+#[tactic(auto, unfolding(crate::specs::Elaboration::loose))]
 fn loose(first: Option<u32>, second: Option<u32>, offset: i64) -> Index
     ensures value { result ≡ spec.loose first second offset }
 {
@@ -232,6 +234,7 @@ fn loose(first: Option<u32>, second: Option<u32>, offset: i64) -> Index
     }
 }
 
+#[tactic(auto, unfolding(crate::specs::Elaboration::with_protocol))]
 fn with_protocol(token: Option<Token>, index: Index) -> Index
     ensures value { result ≡ spec.with_protocol token index }
 {
