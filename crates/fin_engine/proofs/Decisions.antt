@@ -1,5 +1,5 @@
 -- Each text has one verdict.
-use Rattle.std.proofs.Common.{◌≡◌, ◌⊎◌, ◌+◌, inl, inr, ℕ, List, Option, Some, None, refl}
+use Rattle.std.proofs.Common.{◌≡◌, ◌⊎◌, ◌+◌, inl, inr, ℕ, true, List, Option, Some, None, refl}
 use Rattle.fin_base.specs.declared.refusal.Refusal.{Refusal}
 use Rattle.fin_base.specs.declared.refusal.Rule.{Rule}
 use Rattle.fin_ast.specs.declared.checked.Dims.{Dims}
@@ -21,9 +21,11 @@ use Rattle.fin_engine.specs.Inputs.{Tensors, inputs_of, shapes_of, unmatched}
 use Rattle.fin_engine.specs.Laws.{HasOneVerdict, IsLexed, OneVerdict}
 use Rattle.fin_engine.specs.Numbers.{told}
 use Rattle.fin_engine.specs.Verdict.{Breaks, BreaksLater, BreaksWhole, IsCompletion, IsJob, IsJobOf, Reads}
+use Rattle.fin_engine.specs.Worded.{are_told_in_words}
 use Rattle.fin_engine.proofs.JobsFit.{whole_fits}
 use Rattle.fin_engine.proofs.Totality.{lexed_or_breach}
 use Rattle.fin_engine.proofs.Verdicts.{accepted_or_not, one_breach, one_job}
+use Rattle.fin_engine.proofs.Worded.{inputs_worded, told_in_words}
 
 -- ---- a program with its tensors
 
@@ -33,7 +35,7 @@ whole_of p = let c = completion p in (c.0, record { headers = c.1; body = c.2; l
 abbrev IsJobOrBroken : Program → Tensors → Type 0
 IsJobOrBroken p g = ((job : Job) × IsJobOf p g job) ⊎ ((refusal : Refusal) × BreaksLater p g refusal)
 
-module _ (p : Program) (g : Tensors) (matched : unmatched p.headers g ≡ None) (whole : Program) (completed : IsCompletion p whole) where
+module _ (p : Program) (g : Tensors) (words : are_told_in_words g ≡ true) (matched : unmatched p.headers g ≡ None) (whole : Program) (completed : IsCompletion p whole) where
   abbrev job_of : (dims : Dims) → IsInferred whole (shapes_of p.headers g) dims → Job
   job_of dims found = record {
     checked = record {
@@ -43,6 +45,7 @@ module _ (p : Program) (g : Tensors) (matched : unmatched p.headers g ≡ None) 
       fits = whole_fits p.headers g (shapes_of p.headers g) whole dims refl found;
     };
     inputs = inputs_of p.headers g;
+    worded = inputs_worded p.headers g words;
   }
 
   by_parallel : (dims : Dims) → life_in whole ≡ None → IsInferred whole (shapes_of p.headers g) dims → order_in whole ≡ None → (o : Option Refusal) → parallel_in whole ≡ o → IsJobOrBroken p g
@@ -64,12 +67,12 @@ module _ (p : Program) (g : Tensors) (matched : unmatched p.headers g ≡ None) 
   by_life (Some r) e = inr (r, BreaksLater.behind whole matched completed (BreaksWhole.life e))
   by_life None e = by_extents e (inferred_or_breach whole (shapes_of p.headers g))
 
-by_match : (p : Program) (g : Tensors) (o : Option Refusal) → unmatched p.headers g ≡ o → IsJobOrBroken p g
-by_match p g (Some r) e = inr (r, BreaksLater.matching e)
-by_match p g None e = let c = whole_of p in by_life p g e c.0 c.1 (life_in c.0) refl
+by_match : (p : Program) (g : Tensors) → are_told_in_words g ≡ true → (o : Option Refusal) → unmatched p.headers g ≡ o → IsJobOrBroken p g
+by_match p g words (Some r) e = inr (r, BreaksLater.matching e)
+by_match p g words None e = let c = whole_of p in by_life p g words e c.0 c.1 (life_in c.0) refl
 
-job_or_broken : (p : Program) (g : Tensors) → IsJobOrBroken p g
-job_or_broken p g = by_match p g (unmatched p.headers g) refl
+job_or_broken : (p : Program) (g : Tensors) → are_told_in_words g ≡ true → IsJobOrBroken p g
+job_or_broken p g words = by_match p g words (unmatched p.headers g) refl
 
 -- ---- one verdict
 
@@ -105,7 +108,7 @@ by_job text p g reads (inr (r, breaks)) = broken text (told reads.tokens r).rule
 
 by_tensors : (text : List ℕ) (l : IsLexed text) (p : Program) → StandsFor l.program l.tokens l.last p → IsReadOrBroken l.tensors (l.last + 1) → HasOneVerdict text
 by_tensors text l p stands (inl (g, read)) =
-    by_job text p g (record { body = l.program; tensors = l.tensors; last = l.last; cut = l.cut; tokens = l.tokens; lexed = l.lexed; stands = stands; read = read }) (job_or_broken p g)
+    by_job text p g (record { body = l.program; tensors = l.tensors; last = l.last; cut = l.cut; tokens = l.tokens; lexed = l.lexed; stands = stands; read = read }) (job_or_broken p g (told_in_words l.tensors (l.last + 1) g read))
 by_tensors text l p (trees, ok, is) (inr (line, rule, breaks)) =
     broken text rule line (Breaks.no_tensors l.program l.tensors l.last l.tokens trees (record { rule = rule; line = line }) l.cut l.lexed ok breaks)
 

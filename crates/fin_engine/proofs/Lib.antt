@@ -1,8 +1,10 @@
 pub mod Cutting
 pub mod Strays
+pub mod Worded
 pub mod Verdicts
 pub mod JobsFit
 pub mod Fitted
+pub mod Wordy
 pub mod Running
 pub mod Taking
 pub mod Totality

@@ -1,12 +1,14 @@
 -- A job has one verdict.
 use Rattle.std.proofs.Common.{◌≡◌, ◌∙◌, ◌+◌, ℕ, List, [], ◌∷◌, length, refl, sym, ap, subst, arith, codes, length-append}
-use Rattle.std.specs.Prelude.{All}
+use Rattle.std.proofs.Props.{props}
+use Rattle.std.specs.Prelude.{All, IsTrue}
 use Rattle.std.specs.List.{join_with_byte}
 use Rattle.std.proofs.Math.Seq.{get_or-append_seam}
 use Rattle.std.specs.Prelude.{Ok, Err, Some, None, Option}
 use Rattle.fin_base.specs.declared.refusal.Fail.TheVariants.{Refused}
 use Rattle.fin_base.specs.declared.refusal.Refusal.{Refusal}
 use Rattle.fin_base.specs.declared.refusal.Rule.{Rule}
+use Rattle.fin_tensor.specs.declared.storage.Storage.{Storage}
 use Rattle.fin_lex.specs.declared.token.Token.{Token}
 use Rattle.fin_lex.specs.Tokens.{AreTokens, BreaksAt, TokensFrom}
 use Rattle.fin_lex.proofs.Unique.{one_break, one_list, tokens_or_break}
@@ -23,6 +25,7 @@ use Rattle.fin_engine.specs.Cut.{IsBefore, IsCut, IsEndless}
 use Rattle.fin_engine.specs.Numbers.{told}
 use Rattle.fin_engine.specs.Inputs.{Tensors, unmatched, shapes_of}
 use Rattle.fin_engine.specs.Verdict.{Accepts, Breaks, BreaksLater, BreaksWhole, IsCompletion, IsJob, IsJobOf, KeepsWhole, Reads}
+use Rattle.fin_engine.specs.Worded.{are_worded}
 use Rattle.fin_ast.specs.declared.program.Program.{Program}
 use Rattle.fin_ast.specs.declared.checked.Checked.{Checked}
 use Rattle.fin_ast.specs.declared.checked.Dims.{Dims}
@@ -210,8 +213,17 @@ same_checked a b p d w =
     let dims = subst (λ x. (q : FitHeaders b.program.headers x) → a ≡ made b.program x a.ways q) d program in
     subst (λ x. (q : FitHeaders b.program.headers b.dims) → a ≡ made b.program b.dims x q) w dims b.fits
 
+abbrev job_with : (checked : Checked) (inputs : List Storage) → IsTrue (are_worded inputs) → Job
+job_with checked inputs worded = record { checked = checked; inputs = inputs; worded = worded }
+
+worded_prop : (inputs : List Storage) → IsProp (IsTrue (are_worded inputs))
+worded_prop inputs = hlevel props
+
 same_job : (j k : Job) → j.checked ≡ k.checked → j.inputs ≡ k.inputs → j ≡ k
-same_job j k c i = λ x. record { checked = c x; inputs = i x }
+same_job j k c i =
+    let base : (q : IsTrue (are_worded j.inputs)) → j ≡ job_with j.checked j.inputs q = λ q. ap (job_with j.checked j.inputs) (worded_prop j.inputs j.worded q) in
+    let checked = subst (λ (x : Checked). (q : IsTrue (are_worded j.inputs)) → j ≡ job_with x j.inputs q) c base in
+    subst (λ (x : List Storage). (q : IsTrue (are_worded x)) → j ≡ job_with k.checked x q) i checked k.worded
 
 one_job_of : (p : Program) (g : Tensors) (j k : Job) → IsJobOf p g j → IsJobOf p g k → j ≡ k
 one_job_of p g j k h l =

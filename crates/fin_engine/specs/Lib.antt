@@ -1,4 +1,5 @@
 pub mod Cut
+pub mod Worded
 pub mod Inputs
 pub mod Numbers
 pub mod Verdict

@@ -1,8 +1,9 @@
 //! The verdict on a job.
-ghost use Rattle.std.specs.Prelude.{◌≡◌, ◌≤◌, length, IfOk};
+ghost use Rattle.std.specs.Prelude.{◌≡◌, ◌≤◌, length, IfOk, IsTrue};
 ghost use Rattle.fin_ast.specs.Accepted.{FitProgram, IsAccepted};
 ghost use Rattle.fin_parcheck.specs.Safety.{IsSafe};
 ghost use Rattle.fin_engine.specs.Verdict.{Checks, ChecksProgram, ChecksWhole};
+ghost use Rattle.fin_engine.specs.Worded.{are_told_in_words};
 
 use crate::cut::cut;
 use crate::inputs::{inputs_of, shapes_of, unmatched};
@@ -54,12 +55,13 @@ fn check_text(alloc: Global, text: &[u8]) -> Result<Job, Fail>
     told(tokens.as_slice(), verdict)
 }
 
-/// The job of a program with its tensors.
+/// The job of a program with its tensors, which are told in words.
 fn check_program(
     alloc: Global,
     program: Program,
     given: &IndexMap<Name, Given>,
 ) -> Result<Job, Fail>
+    requires words { IsTrue (are_told_in_words given.now.entries) }
     ensures verdict { ChecksProgram program given.now.entries result }
 {
     if let Some(refusal) = unmatched(program.headers.as_slice(), given) {

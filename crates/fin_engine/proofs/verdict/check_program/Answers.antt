@@ -1,12 +1,15 @@
-use Rattle.std.proofs.Common.{rules, ◌≡◌, ◌∙◌, ap, sym, subst}
+use Rattle.std.proofs.Common.{rules, ◌≡◌, ◌∙◌, true, List, ap, sym, subst}
 use Rattle.std.specs.Prelude.{Err, None}
 use Rattle.fin_base.specs.declared.refusal.Fail.{Fail}
 use Rattle.fin_base.specs.declared.refusal.Fail.TheVariants.{Memory, Refused}
+use Rattle.fin_tensor.specs.declared.storage.Storage.{Storage}
 use Rattle.fin_ast.specs.declared.program.Program.{Program}
 use Rattle.fin_ast.specs.Ties.{Shapes}
-use Rattle.fin_engine.specs.Inputs.{Tensors, unmatched, shapes_of}
+use Rattle.fin_engine.specs.Inputs.{Tensors, unmatched, inputs_of, shapes_of}
 use Rattle.fin_engine.specs.Verdict.{BreaksLater, ChecksProgram, ChecksWhole, IsCompletion}
+use Rattle.fin_engine.specs.Worded.{are_worded}
 use Rattle.fin_engine.proofs.JobsFit.{whole_fits}
+use Rattle.fin_engine.proofs.Worded.{inputs_worded}
 use Rattle.fin_engine.proofs.verdict.check_program.Goals as goal
 
 -- a program that breaks a rule after insertion
@@ -30,3 +33,9 @@ invariant_of-result c =
     let given = c.args.given.now.entries in
     let shapes = c.as_slice-4.ensures.value ∙ c.in_ok-shapes.ensures.value ∙ ap (λ hs. shapes_of hs given) c.as_slice-3.ensures in
     record { fits = whole_fits c.args.program.headers given c.as_slice-4.result.now c.in_ok-whole.whole c.in_ok-found.found.0 shapes c.in_ok-found.ensures.verdict.0.extents }
+
+pub invariant_of-result-2 : goal.invariant_of-result-2
+invariant_of-result-2 c =
+    let given = c.args.given.now.entries in
+    let inputs = c.in_ok-inputs.ensures.value ∙ ap (λ hs. inputs_of hs given) c.as_slice-2.ensures in
+    record { worded = subst (λ (ss : List Storage). are_worded ss ≡ true) (sym inputs) (inputs_worded c.args.program.headers given c.requires.words) }

@@ -13,6 +13,7 @@ use Rattle.fin_engine.specs.Inputs.{Tensors}
 use Rattle.fin_engine.specs.Numbers.{told_result}
 use Rattle.fin_engine.specs.Verdict.{Breaks, Checks, ChecksProgram, Reads}
 use Rattle.fin_engine.proofs.Cutting.{early}
+use Rattle.fin_engine.proofs.Worded.{told_in_words}
 use Rattle.fin_engine.proofs.verdict.check_text.Goals as goal
 
 -- a text without tokens
@@ -72,6 +73,11 @@ returns-in_err-given c =
     let program = c.in_ok-program.program in
     let stands : StandsFor parts.program.now tokens parts.last program = subst (λ x. StandsFor parts.program.now x parts.last program) c.as_slice.ensures.value c.in_ok-program.ensures.parsed in
     record { verdict = subst (λ r. Checks c.args.text.now r) (sym is) (misread c.args.text.now parts.program.now parts.tensors.now parts.last tokens program fail c.in-Some.ensures.parts c.in_ok-tokens.ensures.tokens stands c.in_err-given.ensures) }
+
+pub check_program-verdict-requires : goal.check_program-verdict-requires
+check_program-verdict-requires c =
+    let parts = c.in-Some.parts in
+    record { words = told_in_words parts.tensors.now (parts.last + 1) c.in_ok-given.given.entries c.in_ok-given.ensures }
 
 -- a text that is read
 checked : (text : List ℕ) (program : Program) (given : Tensors) (result : Result Job Fail) (reads : Reads text program given) → ChecksProgram program given result → Checks text (told_result reads.tokens result)
