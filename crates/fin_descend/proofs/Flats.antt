@@ -24,7 +24,7 @@ use Rattle.fin_descend.specs.Parts.{weight_in, parts_of, frame_of}
 use Rattle.fin_descend.specs.Promises.{Family, MeansIn, Divides, StaySeparate, MeanEach}
 use Rattle.fin_descend.specs.Sparing.{KeepsTo}
 use Rattle.fin_descend.specs.Holes.{holes, filled_each}
-use Rattle.fin_descend.specs.Flat.{one_leaf, Tells_of, OfLeaf, AtPoint, LeafMeans, MeanLeaves, with_codes, FlatMeans, Flattens, FlattenEach, FlattensSplit}
+use Rattle.fin_descend.specs.Flat.{one_leaf, Tells_of, OfLeaf, AtPoint, OfFixed, LeafMeans, MeanLeaves, with_codes, FlatMeans, Flattens, FlattenEach, FlattensSplit}
 use Rattle.fin_descend.proofs.Composing.{fill_composes, filled_holes, frames_behind, all_of_behind}
 use Rattle.fin_descend.proofs.Descents.{nothing_means, stepped_means, joined, mean_more, all_first, all_last, heavy, all_taken}
 use Rattle.fin_descend.proofs.Framing.{parts_spare, appended}
@@ -33,7 +33,7 @@ use Rattle.fin_descend.proofs.Sparing.{and_both, spared_skip, fills_spare}
 
 -- ---- a leaf
 
-module _ (family : Family) (comes : Nest → Type 0) (n : Nest) where
+module _ (family : Family) (comes fixed : Nest → Type 0) (n : Nest) where
   one_means : (leaf : Leaf) → ((c : Code) (room : ℕ) → LeafMeans family room leaf c → MeansIn family (record { code = c; room = room }) n) → FlatMeans family (one_leaf leaf) n
   one_means leaf means [] room h = absurd h
   one_means leaf means (c ∷ []) room h = λ s layout b stands fits.
@@ -42,43 +42,47 @@ module _ (family : Family) (comes : Nest → Type 0) (n : Nest) where
   one_means leaf means (c ∷ (d ∷ cs)) room h = absurd h.1
 
   leaf_flattens : (leaf : Leaf) → ((c : Code) (room : ℕ) → LeafMeans family room leaf c → MeansIn family (record { code = c; room = room }) n)
-      → ((s : Staying) → KeepsTo s n → OfLeaf (KeepsTo s) leaf) → OfLeaf comes leaf → AtPoint leaf → Flattens family comes (one_leaf leaf) n
-  leaf_flattens leaf means keeps come point = record {
+      → ((s : Staying) → KeepsTo s n → OfLeaf (KeepsTo s) leaf) → OfLeaf comes leaf → AtPoint leaf → OfFixed fixed leaf → Flattens family comes fixed (one_leaf leaf) n
+  leaf_flattens leaf means keeps come point known = record {
     holes = omega (arith, of_hole);
     means = one_means leaf means;
     spares = λ s k. (spared_skip s, All-cons (OfLeaf (KeepsTo s)) leaf [] (keeps s k) (All-nil (OfLeaf (KeepsTo s))));
     come = All-cons (OfLeaf comes) leaf [] come (All-nil (OfLeaf comes));
     points = All-cons AtPoint leaf [] point (All-nil AtPoint);
+    fixed = All-cons (OfFixed fixed) leaf [] known (All-nil (OfFixed fixed));
   }
 
-  returned : {E : Type 0} (r : Result Flat E) (leaf : Leaf) → Flattens family comes (one_leaf leaf) n → IfOk r (λ (f : Flat). f ≡ one_leaf leaf)
-      → IfOk r (λ (f : Flat). Flattens family comes f n)
+  returned : {E : Type 0} (r : Result Flat E) (leaf : Leaf) → Flattens family comes fixed (one_leaf leaf) n → IfOk r (λ (f : Flat). f ≡ one_leaf leaf)
+      → IfOk r (λ (f : Flat). Flattens family comes fixed f n)
   returned r leaf h is =
-      IfOk-weaker r (λ (f : Flat). f ≡ one_leaf leaf) (λ (f : Flat). Flattens family comes f n) (λ f e. subst (λ (x : Flat). Flattens family comes x n) (sym e) h) is
+      IfOk-weaker r (λ (f : Flat). f ≡ one_leaf leaf) (λ (f : Flat). Flattens family comes fixed f n) (λ f e. subst (λ (x : Flat). Flattens family comes fixed x n) (sym e) h) is
 
-  pub nothing_flattened : {E : Type 0} (r : Result Flat E) (k : Told) → Tells_of family n k → k ≡ told.Nothing → IfOk r (λ (f : Flat). f ≡ one_leaf Nothing)
-      → IfOk r (λ (f : Flat). Flattens family comes f n)
+  pub nothing_flattened : {E : Type 0} (r : Result Flat E) (k : Told) → Tells_of family fixed n k → k ≡ told.Nothing → IfOk r (λ (f : Flat). f ≡ one_leaf Nothing)
+      → IfOk r (λ (f : Flat). Flattens family comes fixed f n)
   nothing_flattened r k tells is made =
-      let nothing = subst (λ (x : Told). Tells_of family n x) is tells in
-      returned r Nothing (leaf_flattens Nothing (λ c room e. nothing_means family n (record { code = c; room = room }) nothing e) (λ s k. tt) tt tt) made
+      let nothing = subst (λ (x : Told). Tells_of family fixed n x) is tells in
+      returned r Nothing (leaf_flattens Nothing (λ c room e. nothing_means family n (record { code = c; room = room }) nothing e) (λ s k. tt) tt tt tt) made
 
-  pub fixed_flattened : {E : Type 0} (r : Result Flat E) → comes n → IfOk r (λ (f : Flat). f ≡ one_leaf (Fixed n)) → IfOk r (λ (f : Flat). Flattens family comes f n)
-  fixed_flattened r come made = returned r (Fixed n) (leaf_flattens (Fixed n) (λ c room e. e) (λ s k. k) come tt) made
+  pub fixed_flattened : {E : Type 0} (r : Result Flat E) (k : Told) → comes n → Tells_of family fixed n k → k ≡ told.Fixed → IfOk r (λ (f : Flat). f ≡ one_leaf (Fixed n))
+      → IfOk r (λ (f : Flat). Flattens family comes fixed f n)
+  fixed_flattened r k come tells is made =
+      let known = subst (λ (x : Told). Tells_of family fixed n x) is tells in
+      returned r (Fixed n) (leaf_flattens (Fixed n) (λ c room e. e) (λ s k. k) come tt known) made
 
   pub point_flattened : {E : Type 0} (r : Result Flat E) → comes n → RunsAtPoint (all_looplets n) n.lo n.hi → IfOk r (λ (f : Flat). f ≡ one_leaf (Point n))
-      → IfOk r (λ (f : Flat). Flattens family comes f n)
-  point_flattened r come point made = returned r (Point n) (leaf_flattens (Point n) (λ c room e. e) (λ s k. k) come point) made
+      → IfOk r (λ (f : Flat). Flattens family comes fixed f n)
+  point_flattened r come point made = returned r (Point n) (leaf_flattens (Point n) (λ c room e. e) (λ s k. k) come point tt) made
 
 -- ---- a nest that may be stepped, and weighs something: its split
 
 pub split_fits : (n : Nest) (p : Split) → p.frame ≡ frame_of n → p.nests ≡ parts_of n → holes p.frame ≡ length p.nests
 split_fits n p frame parts = ap holes frame ∙ step_holes n ∙ ap (λ (ns : List Nest). length ns) (sym parts)
 
-pub open_flattened : {E : Type 0} (family : Family) (comes : Nest → Type 0) (n : Nest) (p : Split) (weightless : Bool) (r : Result Flat E) → weightless ≡ nat_eq (weight_in n) 0
-    → weightless ≡ false → Tells_of family n told.Open → Divides p n → StaySeparate p n → p.frame ≡ frame_of n → p.nests ≡ parts_of n
-    → IfOk r (λ (f : Flat). FlattensSplit family comes p f) → IfOk r (λ (f : Flat). Flattens family comes f n)
-open_flattened family comes n p weightless r test weighs may divides apart frame parts made =
-    IfOk-weaker r (λ (f : Flat). FlattensSplit family comes p f) (λ (f : Flat). Flattens family comes f n) (λ f j. record {
+pub open_flattened : {E : Type 0} (family : Family) (comes fixed : Nest → Type 0) (n : Nest) (p : Split) (weightless : Bool) (r : Result Flat E) → weightless ≡ nat_eq (weight_in n) 0
+    → weightless ≡ false → Tells_of family fixed n told.Open → Divides p n → StaySeparate p n → p.frame ≡ frame_of n → p.nests ≡ parts_of n
+    → IfOk r (λ (f : Flat). FlattensSplit family comes fixed p f) → IfOk r (λ (f : Flat). Flattens family comes fixed f n)
+open_flattened family comes fixed n p weightless r test weighs may divides apart frame parts made =
+    IfOk-weaker r (λ (f : Flat). FlattensSplit family comes fixed p f) (λ (f : Flat). Flattens family comes fixed f n) (λ f j. record {
       holes = j.holes;
       means = λ cs room h.
           stepped_means family n p (with_codes f cs room) may (heavy weightless (weight_in n) test weighs) divides apart (let below = j.room in omega (arith, below)) (j.joins cs room h);
@@ -87,13 +91,14 @@ open_flattened family comes n p weightless r test weighs may divides apart frame
           j.spares s (subst (λ (c : Code). spares s c ≡ true) (sym frame) kept.0) (subst (λ (ns : List Nest). All (KeepsTo s) ns) (sym parts) kept.1);
       come = j.come;
       points = j.points;
+      fixed = j.fixed;
     }) made
 
 -- ---- a split: its frame with those of the parts
 
-split_flattens : (family : Family) (comes : Nest → Type 0) (p : Split) (frames : List Code) (leaves : List Leaf) (each room : ℕ) → FlattenEach family comes p.nests frames leaves each
-    → holes p.frame ≡ length p.nests → p.room ≤ room → each ≤ room → FlattensSplit family comes p (record { frame = fill p.frame frames; leaves = leaves; room = room })
-split_flattens family comes p frames leaves each room e fits first second =
+split_flattens : (family : Family) (comes fixed : Nest → Type 0) (p : Split) (frames : List Code) (leaves : List Leaf) (each room : ℕ) → FlattenEach family comes fixed p.nests frames leaves each
+    → holes p.frame ≡ length p.nests → p.room ≤ room → each ≤ room → FlattensSplit family comes fixed p (record { frame = fill p.frame frames; leaves = leaves; room = room })
+split_flattens family comes fixed p frames leaves each room e fits first second =
     let enough : holes p.frame ≡ length frames = fits ∙ sym e.count in record {
       holes = filled_holes p.frame frames enough ∙ e.holes;
       joins = λ cs more h.
@@ -103,6 +108,7 @@ split_flattens family comes p frames leaves each room e fits first second =
       spares = λ s around keeps. let kept = e.spares s keeps in (fills_spare s p.frame frames around kept.0, kept.1);
       come = e.come;
       points = e.points;
+      fixed = e.fixed;
     }
 
 abbrev flat : Code → List Leaf → ℕ → Flat
@@ -114,15 +120,15 @@ flat_of (Ok f) frame leaves room e d g =
     ap (λ (c : Code). flat c f.leaves f.room) e ∙ ap (λ (ls : List Leaf). flat frame ls f.room) d ∙ ap (λ (k : ℕ). flat frame leaves k) g
 flat_of (Err x) frame leaves room e d g = tt
 
-pub parts_flattened : {E : Type 0} (family : Family) (comes : Nest → Type 0) (p : Split) (ns : List Nest) (frames : List Code) (leaves : List Leaf) (each room : ℕ) (r : Result Flat E)
-    → FlattenEach family comes ns frames leaves each → ns ≡ p.nests → holes p.frame ≡ length p.nests → p.room ≤ room → each ≤ room
+pub parts_flattened : {E : Type 0} (family : Family) (comes fixed : Nest → Type 0) (p : Split) (ns : List Nest) (frames : List Code) (leaves : List Leaf) (each room : ℕ) (r : Result Flat E)
+    → FlattenEach family comes fixed ns frames leaves each → ns ≡ p.nests → holes p.frame ≡ length p.nests → p.room ≤ room → each ≤ room
     → IfOk r (λ (f : Flat). f.frame ≡ fill p.frame frames) → IfOk r (λ (f : Flat). f.leaves ≡ leaves) → IfOk r (λ (f : Flat). f.room ≡ room)
-    → IfOk r (λ (f : Flat). FlattensSplit family comes p f)
-parts_flattened family comes p ns frames leaves each room r e are fits first second is_frame is_leaves is_room =
-    let here = subst (λ (xs : List Nest). FlattenEach family comes xs frames leaves each) are e in
+    → IfOk r (λ (f : Flat). FlattensSplit family comes fixed p f)
+parts_flattened family comes fixed p ns frames leaves each room r e are fits first second is_frame is_leaves is_room =
+    let here = subst (λ (xs : List Nest). FlattenEach family comes fixed xs frames leaves each) are e in
     let whole : Flat = record { frame = fill p.frame frames; leaves = leaves; room = room } in
-    let made = split_flattens family comes p frames leaves each room here fits first second in
-    IfOk-weaker r (λ (f : Flat). f ≡ whole) (λ (f : Flat). FlattensSplit family comes p f) (λ f is. subst (λ (x : Flat). FlattensSplit family comes p x) (sym is) made)
+    let made = split_flattens family comes fixed p frames leaves each room here fits first second in
+    IfOk-weaker r (λ (f : Flat). f ≡ whole) (λ (f : Flat). FlattensSplit family comes fixed p f) (λ f is. subst (λ (x : Flat). FlattensSplit family comes fixed p x) (sym is) made)
     (flat_of r (fill p.frame frames) leaves room is_frame is_leaves is_room)
 
 -- ---- codes for leaves, one list behind another
@@ -149,25 +155,26 @@ one_for_each R (x ∷ xs) (c ∷ cs) h = let e = one_for_each R xs cs h.1 in ome
 
 -- ---- the nests of a split, one after another
 
-at_first : (family : Family) (comes : Nest → Type 0) → FlattenEach family comes [] [] [] 0
-at_first family comes = record {
+at_first : (family : Family) (comes fixed : Nest → Type 0) → FlattenEach family comes fixed [] [] [] 0
+at_first family comes fixed = record {
   count = refl;
   holes = refl;
   means = none;
   spares = λ s keeps. (refl, All-nil (OfLeaf (KeepsTo s)));
   come = All-nil (OfLeaf comes);
   points = All-nil AtPoint;
+  fixed = All-nil (OfFixed fixed);
 } where
   none : (cs : List Code) (more : ℕ) → MeanLeaves family [] cs more → MeanEach family [] (filled_each [] cs) (max 0 more)
   none [] more h s layout b stands fits = tt
   none (c ∷ cs) more h s layout b stands fits = tt
 
-pub none_flattened : (family : Family) (comes : Nest → Type 0) (frames : List Code) (leaves : List Leaf) → frames ≡ [] → leaves ≡ [] → FlattenEach family comes [] frames leaves 0
-none_flattened family comes frames leaves e d =
-    subst (λ (cs : List Code). FlattenEach family comes [] cs leaves 0) (sym e) (subst (λ (ls : List Leaf). FlattenEach family comes [] [] ls 0) (sym d) (at_first family comes))
+pub none_flattened : (family : Family) (comes fixed : Nest → Type 0) (frames : List Code) (leaves : List Leaf) → frames ≡ [] → leaves ≡ [] → FlattenEach family comes fixed [] frames leaves 0
+none_flattened family comes fixed frames leaves e d =
+    subst (λ (cs : List Code). FlattenEach family comes fixed [] cs leaves 0) (sym e) (subst (λ (ls : List Leaf). FlattenEach family comes fixed [] [] ls 0) (sym d) (at_first family comes fixed))
 
-module _ (family : Family) (comes : Nest → Type 0) (ns : List Nest) (i : ℕ) (n : Nest) (f : Flat) (frames : List Code) (leaves : List Leaf) (room more : ℕ) (below : i < length ns)
-    (is : n ≡ get_or ns i n) (so_far : FlattenEach family comes (take i ns) frames leaves room) (one : Flattens family comes f n) (first : room ≤ more) (second : f.room ≤ more) where
+module _ (family : Family) (comes fixed : Nest → Type 0) (ns : List Nest) (i : ℕ) (n : Nest) (f : Flat) (frames : List Code) (leaves : List Leaf) (room more : ℕ) (below : i < length ns)
+    (is : n ≡ get_or ns i n) (so_far : FlattenEach family comes fixed (take i ns) frames leaves room) (one : Flattens family comes fixed f n) (first : room ≤ more) (second : f.room ≤ more) where
   taken : take (i + 1) ns ≡ take i ns ++ n ∷ []
   taken = take_more ns i n below ∙ ap (λ (x : Nest). take i ns ++ x ∷ []) (sym is)
 
@@ -190,7 +197,7 @@ module _ (family : Family) (comes : Nest → Type 0) (ns : List Nest) (i : ℕ) 
       let here = one.spares s (all_last (KeepsTo s) (take i ns) n all) in
       (appended s frames (f.frame ∷ []) before.0 (and_both (spares s f.frame) true here.0 refl), All-append (OfLeaf (KeepsTo s)) leaves f.leaves before.1 here.1)
 
-  one_more : FlattenEach family comes (take (i + 1) ns) (frames ++ f.frame ∷ []) (leaves ++ f.leaves) more
+  one_more : FlattenEach family comes fixed (take (i + 1) ns) (frames ++ f.frame ∷ []) (leaves ++ f.leaves) more
   one_more = record {
     count =
         let e = ap (λ (xs : List Nest). length xs) taken in
@@ -200,13 +207,14 @@ module _ (family : Family) (comes : Nest → Type 0) (ns : List Nest) (i : ℕ) 
     spares = more_spare;
     come = All-append (OfLeaf comes) leaves f.leaves so_far.come one.come;
     points = All-append AtPoint leaves f.leaves so_far.points one.points;
+    fixed = All-append (OfFixed fixed) leaves f.leaves so_far.fixed one.fixed;
   }
 
-  pub each_flattened : (now : List Code) (whole : List Leaf) → now ≡ frames ++ f.frame ∷ [] → whole ≡ leaves ++ f.leaves → FlattenEach family comes (take (i + 1) ns) now whole more
+  pub each_flattened : (now : List Code) (whole : List Leaf) → now ≡ frames ++ f.frame ∷ [] → whole ≡ leaves ++ f.leaves → FlattenEach family comes fixed (take (i + 1) ns) now whole more
   each_flattened now whole e d =
-      subst (λ (xs : List Code). FlattenEach family comes (take (i + 1) ns) xs whole more) (sym e)
-      (subst (λ (ls : List Leaf). FlattenEach family comes (take (i + 1) ns) (frames ++ f.frame ∷ []) ls more) (sym d) one_more)
+      subst (λ (xs : List Code). FlattenEach family comes fixed (take (i + 1) ns) xs whole more) (sym e)
+      (subst (λ (ls : List Leaf). FlattenEach family comes fixed (take (i + 1) ns) (frames ++ f.frame ∷ []) ls more) (sym d) one_more)
 
-pub all_flattened : (family : Family) (comes : Nest → Type 0) (ns : List Nest) (i : ℕ) (frames : List Code) (leaves : List Leaf) (room : ℕ) → length ns ≤ i
-    → FlattenEach family comes (take i ns) frames leaves room → FlattenEach family comes ns frames leaves room
-all_flattened family comes ns i frames leaves room h each = all_taken (λ (xs : List Nest). FlattenEach family comes xs frames leaves room) ns i h each
+pub all_flattened : (family : Family) (comes fixed : Nest → Type 0) (ns : List Nest) (i : ℕ) (frames : List Code) (leaves : List Leaf) (room : ℕ) → length ns ≤ i
+    → FlattenEach family comes fixed (take i ns) frames leaves room → FlattenEach family comes fixed ns frames leaves room
+all_flattened family comes fixed ns i frames leaves room h each = all_taken (λ (xs : List Nest). FlattenEach family comes fixed xs frames leaves room) ns i h each

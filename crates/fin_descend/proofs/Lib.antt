@@ -4,6 +4,7 @@ pub mod Leaves
 pub mod Descents
 pub mod Jumpless
 pub mod Loops
+pub mod Later
 pub mod Lasting
 pub mod Cycle
 pub mod Sparing

@@ -22,11 +22,12 @@ use Rattle.fin_descend.specs.Holes.{all_holes, holes, filled_each}
 
 -- ---- leaves
 
--- What a caller that is asked of a nest owes: of one that is done at once nothing, since its code is made afterwards.
-abbrev pub Tells_of : Family → Nest → Told → Type 0
-Tells_of family n told.Nothing = Tells family n known.Nothing
-Tells_of family n told.Fixed = Unit {0}
-Tells_of family n told.Open = Tells family n known.Open
+-- What a caller that is asked of a nest owes: of one that is done at once what it says that it knows of such nests, since
+-- its code is made afterwards.
+abbrev pub Tells_of : Family → (Nest → Type 0) → Nest → Told → Type 0
+Tells_of family fixed n told.Nothing = Tells family n known.Nothing
+Tells_of family fixed n told.Fixed = fixed n
+Tells_of family fixed n told.Open = Tells family n known.Open
 
 -- a nest that is a leaf itself
 abbrev pub one_leaf : Leaf → Flat
@@ -43,6 +44,12 @@ abbrev pub AtPoint : Leaf → Type 0
 AtPoint (Point n) = RunsAtPoint (all_looplets n) n.lo n.hi
 AtPoint (Fixed n) = Unit {0}
 AtPoint Nothing = Unit {0}
+
+-- one along which the body is a fixed update has
+abbrev pub OfFixed : (Nest → Type 0) → Leaf → Type 0
+OfFixed P (Point n) = Unit {0}
+OfFixed P (Fixed n) = P n
+OfFixed P Nothing = Unit {0}
 
 -- the code means the leaf's nest; where nothing is done there is none
 abbrev pub LeafMeans : Family → ℕ → Leaf → Code → Type 0
@@ -70,18 +77,19 @@ abbrev pub FlatSpares : Flat → Nest → Type 0
 FlatSpares flat n =
     (s : Staying) → KeepsTo s n → (spares s flat.frame ≡ true) × All (OfLeaf (KeepsTo s)) flat.leaves
 
--- each hole is for a leaf, and so on; each leaf may come
-pub record Flattens (family : Family) (comes : Nest → Type 0) (flat : Flat) (n : Nest) : Type 0 where
+-- each hole is for a leaf, and so on; each leaf may come, and what is known of a fixed one is known
+pub record Flattens (family : Family) (comes of_fixed : Nest → Type 0) (flat : Flat) (n : Nest) : Type 0 where
   pub holes : holes flat.frame ≡ length flat.leaves
   pub means : FlatMeans family flat n
   pub spares : FlatSpares flat n
   pub come : All (OfLeaf comes) flat.leaves
   pub points : All AtPoint flat.leaves
+  pub fixed : All (OfFixed of_fixed) flat.leaves
 
 -- ---- the parts of a nest
 
 -- so it is of some nests, each with its frame
-pub record FlattenEach (family : Family) (comes : Nest → Type 0) (ns : List Nest) (frames : List Code) (leaves : List Leaf) (room : ℕ) : Type 0 where
+pub record FlattenEach (family : Family) (comes of_fixed : Nest → Type 0) (ns : List Nest) (frames : List Code) (leaves : List Leaf) (room : ℕ) : Type 0 where
   pub count : length frames ≡ length ns
   pub holes : all_holes (map holes frames) ≡ length leaves
   pub means : (cs : List Code) (more : ℕ) → MeanLeaves family leaves cs more
@@ -90,9 +98,10 @@ pub record FlattenEach (family : Family) (comes : Nest → Type 0) (ns : List Ne
       → (all_spare (map (spares s) frames) ≡ true) × All (OfLeaf (KeepsTo s)) leaves
   pub come : All (OfLeaf comes) leaves
   pub points : All AtPoint leaves
+  pub fixed : All (OfFixed of_fixed) leaves
 
 -- and of a nest that is divided so
-pub record FlattensSplit (family : Family) (comes : Nest → Type 0) (split : Split) (flat : Flat) : Type 0 where
+pub record FlattensSplit (family : Family) (comes of_fixed : Nest → Type 0) (split : Split) (flat : Flat) : Type 0 where
   pub holes : holes flat.frame ≡ length flat.leaves
   pub joins : (cs : List Code) (room : ℕ) → MeanLeaves family flat.leaves cs room → Joins family split (with_codes flat cs room)
   pub room : split.room ≤ flat.room
@@ -100,3 +109,4 @@ pub record FlattensSplit (family : Family) (comes : Nest → Type 0) (split : Sp
       → (spares s flat.frame ≡ true) × All (OfLeaf (KeepsTo s)) flat.leaves
   pub come : All (OfLeaf comes) flat.leaves
   pub points : All AtPoint flat.leaves
+  pub fixed : All (OfFixed of_fixed) flat.leaves

@@ -1,5 +1,6 @@
 -- The parts of a nest by the step of its style and the frame for their codes, whichever crate steps it.
-use Rattle.std.specs.Prelude.{ℕ, max, List, [], ◌∷◌, map, if◌then◌else◌}
+use Rattle.std.specs.Prelude.{ℕ, ◌≤◌, max, List, [], ◌∷◌, map, if◌then◌else◌}
+use Rattle.std.specs.List.{All}
 use Rattle.fin_ir.specs.declared.code.Code.{Code}
 use Rattle.fin_nest.specs.Courses.{course_weight}
 use Rattle.fin_nest.specs.Styles.{style_of, is_point_style}
@@ -50,3 +51,7 @@ abbrev pub frame_of : Nest → Code
 frame_of n =
     if is_point_style (style_of (points.all_looplets n)) then (points.parts_of n).frame
     else (steps.parts_of (as_stepping n)).frame
+
+-- the free locals of each part are some of those of the nest
+abbrev pub PartsComeLater : Type 0
+PartsComeLater = (n : Nest) → All (λ q. n.next ≤ q.next) (parts_of n)

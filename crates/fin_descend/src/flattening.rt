@@ -42,10 +42,13 @@ pub trait Asks {
     /// What may stand behind them, by what a run begins with and the layout of the code.
     ghost stands: { Self → Start → Layout → Behind Run → Type 0 };
 
+    /// What is known of a nest along which the body is a fixed update.
+    ghost fixed: { Self → Nest → Type 0 };
+
     /// Whether the body is nothing along the nest, or a fixed update, or neither.
     fn ask(&self, alloc: Global, nest: &Nest) -> Result<Told, AllocError>
         requires { comes self.now nest.now }
-        ensures { IfOk result (λ told. Tells_of (stands self.now) nest.now told) };
+        ensures { IfOk result (λ told. Tells_of (stands self.now) (fixed self.now) nest.now told) };
 
     /// What may come is kept by each step.
     ghost parts_come: { (self : Self) (n : Nest) → 0 < weight_in n → comes self n → All (comes self) (parts_of n) };
@@ -82,7 +85,7 @@ struct FlatEach {
 #[cycle(flatten)]
 pub fn flatten<A: Asks>(alloc: Global, nest: &Nest, asks: &A) -> Result<Flat, AllocError>
     requires { A.comes asks.now nest.now }
-    ensures { IfOk result (λ flat. Flattens (A.stands asks.now) (A.comes asks.now) flat nest.now) }
+    ensures { IfOk result (λ flat. Flattens (A.stands asks.now) (A.comes asks.now) (A.fixed asks.now) flat nest.now) }
 {
     match asks.ask(alloc, nest)? {
         Told::Nothing => one_leaf(alloc, Leaf::Nothing),
@@ -95,8 +98,8 @@ pub fn flatten<A: Asks>(alloc: Global, nest: &Nest, asks: &A) -> Result<Flat, Al
 #[cycle(flatten)]
 fn flatten_open<A: Asks>(alloc: Global, nest: &Nest, asks: &A) -> Result<Flat, AllocError>
     requires comes { A.comes asks.now nest.now }
-    requires may_step { Tells_of (A.stands asks.now) nest.now told.Open }
-    ensures { IfOk result (λ flat. Flattens (A.stands asks.now) (A.comes asks.now) flat nest.now) }
+    requires may_step { Tells_of (A.stands asks.now) (A.fixed asks.now) nest.now told.Open }
+    ensures { IfOk result (λ flat. Flattens (A.stands asks.now) (A.comes asks.now) (A.fixed asks.now) flat nest.now) }
 {
     if weighs_nothing(nest) {
         return point_leaf(alloc, nest);
@@ -109,7 +112,7 @@ fn flatten_open<A: Asks>(alloc: Global, nest: &Nest, asks: &A) -> Result<Flat, A
 fn flatten_split<A: Asks>(alloc: Global, split: Split, asks: &A) -> Result<Flat, AllocError>
     requires comes { All (A.comes asks.now) split.nests }
     requires fits { holes split.frame ≡ length split.nests }
-    ensures { IfOk result (λ flat. FlattensSplit (A.stands asks.now) (A.comes asks.now) split flat) }
+    ensures { IfOk result (λ flat. FlattensSplit (A.stands asks.now) (A.comes asks.now) (A.fixed asks.now) split flat) }
 {
     flatten_parts(alloc, &split, asks)
 }
@@ -119,7 +122,8 @@ fn flatten_split<A: Asks>(alloc: Global, split: Split, asks: &A) -> Result<Flat,
 fn flatten_parts<A: Asks>(alloc: Global, split: &Split, asks: &A) -> Result<Flat, AllocError>
     requires comes { All (A.comes asks.now) split.now.nests }
     requires fits { holes split.now.frame ≡ length split.now.nests }
-    ensures { IfOk result (λ flat. FlattensSplit (A.stands asks.now) (A.comes asks.now) split.now flat) }
+    ensures { IfOk result (λ flat. FlattensSplit (A.stands asks.now) (A.comes asks.now) (A.fixed asks.now)
+        split.now flat) }
 {
     let each = flatten_each(alloc, split.nests.as_slice(), asks)?;
     let room = greater(split.room, each.room);
@@ -129,7 +133,7 @@ fn flatten_parts<A: Asks>(alloc: Global, split: &Split, asks: &A) -> Result<Flat
 #[cycle(flatten)]
 fn flatten_each<A: Asks>(alloc: Global, nests: &[Nest], asks: &A) -> Result<FlatEach, AllocError>
     requires { All (A.comes asks.now) nests.now }
-    ensures { IfOk result (λ each. FlattenEach (A.stands asks.now) (A.comes asks.now)
+    ensures { IfOk result (λ each. FlattenEach (A.stands asks.now) (A.comes asks.now) (A.fixed asks.now)
         nests.now each.frames each.leaves each.room) }
 {
     let mut frames = Items::new(alloc);

@@ -1,13 +1,20 @@
-//! What is proved of nests without jumpers, of the leaves in nests, and of what the code of a nest leaves as it is.
+//! What is proved of nests without jumpers, of the leaves in nests, of free locals, and of what the code of a nest leaves as
+//! it is.
 ghost use Rattle.fin_looplet.specs.declared.looplet.Leaf.{Leaf};
 ghost use Rattle.fin_descend.specs.Jumpless.{PartsAreOfLoop, JumplessDontJump};
 ghost use Rattle.fin_descend.specs.Leaves.{Lasting, PartsKeepLeaves, RunsKeepLeaves, LeafWorded, IsNumberOrGap};
 ghost use Rattle.fin_descend.specs.Holes.{FramesCompose, StepsHaveHoles};
+ghost use Rattle.fin_descend.specs.Parts.{PartsComeLater};
 ghost use Rattle.fin_descend.specs.Sparing.{PartsSpare, FillsSpare, SparesLess};
 
 /// The parts of a nest of a loop without jumpers are nests of the loop without jumpers.
 pub fn parts_are_of_loop()
     ensures { PartsAreOfLoop }
+{}
+
+/// No part of a nest has a free local before the nest's.
+pub fn parts_come_later()
+    ensures { PartsComeLater }
 {}
 
 /// A nest without jumpers hasn't the style of jumpers: it owes nothing for them.

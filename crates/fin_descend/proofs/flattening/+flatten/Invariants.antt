@@ -20,4 +20,4 @@ decreases-flatten_each g l = 5 * heaviest l.nests.now + 2
 
 abbrev pub invariant-flatten_each-loop-nest : goal.invariant-flatten_each-loop-nest
 invariant-flatten_each-loop-nest g l =
-    FlattenEach (g.A.Asks.stands l.asks) (g.A.Asks.comes l.asks) (take l.nest-index l.nests) l.frames l.leaves l.room
+    FlattenEach (g.A.Asks.stands l.asks) (g.A.Asks.comes l.asks) (g.A.Asks.fixed l.asks) (take l.nest-index l.nests) l.frames l.leaves l.room
