@@ -26,36 +26,36 @@ use Rattle.fin_style_step.specs.declared.nest.Kind.{Kind}
 use Rattle.fin_style_step.specs.declared.nest.Kind.TheVariants as kind
 use Rattle.fin_style_step.specs.Parts as steps
 use Rattle.fin_descend.specs.Parts.{as_stepping, as_point}
-use Rattle.fin_descend.specs.Leaves.{EachAllLeaves, Lasting, HasLeaves, PartsKeepLeaves, RunsKeepLeaves, LeafWorded, IsNumberOrGap}
-use Rattle.fin_descend.proofs.Leaves.{cut_leaves, unshifted_leaves, held_leaves, inside_leaves, mapped_leaves, here_all_leaves, others_all_leaves, choose_leaves}
+use Rattle.fin_descend.specs.Leaves.{EachAllLeaves, Never, Lasting, HasLeaves, PartsKeepLeaves, RunsKeepLeaves, FlatAreRuns, LeafWorded, IsNumberOrGap}
+use Rattle.fin_descend.proofs.Leaves.{Kept, of_reads, of_masks, cut_leaves, unshifted_leaves, held_leaves, inside_leaves, mapped_leaves, here_all_leaves, others_all_leaves, choose_leaves}
 use Rattle.fin_descend.proofs.Loops.{one, two, by_if, one_along}
 
-module _ (P Q : Leaf → Type 0) (p : Lasting P) (q : Lasting Q) where
+module _ (P Q : Leaf → Type 0) (p : Kept P P) (q : Kept Q Never) where
   -- ---- point by point
 
   module _ (n : Nest) (h : HasLeaves P Q n) where
     shifted : HasLeaves P Q (points.shift_part n)
     shifted = record {
-      reads = mapped_leaves P p point.unshifted (unshifted_leaves P p) n.reads h.reads;
-      masks = mapped_leaves Q q point.unshifted (unshifted_leaves Q q) n.masks h.masks;
+      reads = mapped_leaves P P p point.unshifted (unshifted_leaves P P p) n.reads h.reads;
+      masks = mapped_leaves Q Never q point.unshifted (unshifted_leaves Q Never q) n.masks h.masks;
     }
 
     chosen : (b : Branch) → HasLeaves P Q (points.switch_part b n)
     chosen b = record {
-      reads = choose_leaves P p b true n.reads h.reads;
-      masks = choose_leaves Q q b (not (style.has style.switch (looplets n.reads))) n.masks h.masks;
+      reads = choose_leaves P P p b true n.reads h.reads;
+      masks = choose_leaves Q Never q b (not (style.has style.switch (looplets n.reads))) n.masks h.masks;
     }
 
     two_runs : HasLeaves P Q (points.spike_part n)
     two_runs = record {
-      reads = mapped_leaves P p (cut n.hi) (cut_leaves P p n.hi) n.reads h.reads;
-      masks = mapped_leaves Q q (cut n.hi) (cut_leaves Q q n.hi) n.masks h.masks;
+      reads = mapped_leaves P P p (cut n.hi) (cut_leaves P P p n.hi) n.reads h.reads;
+      masks = mapped_leaves Q Never q (cut n.hi) (cut_leaves Q Never q n.hi) n.masks h.masks;
     }
 
     held : HasLeaves P Q (points.point_part n)
     held = record {
-      reads = mapped_leaves P p point.held (held_leaves P p) n.reads h.reads;
-      masks = mapped_leaves Q q point.held (held_leaves Q q) n.masks h.masks;
+      reads = mapped_leaves P P p point.held (held_leaves P P p) n.reads h.reads;
+      masks = mapped_leaves Q Never q point.held (held_leaves Q Never q) n.masks h.masks;
     }
 
     abbrev AllHave : at_points.Parts → Type 0
@@ -75,20 +75,20 @@ module _ (P Q : Leaf → Type 0) (p : Lasting P) (q : Lasting Q) where
   module _ (n : stepping.Nest) (h : Along n) where
     here : Along (steps.here_part n)
     here = record {
-      reads = here_all_leaves P p n.hi true n.reads h.reads;
-      masks = here_all_leaves Q q n.hi (steps.masks_wait n) n.masks h.masks;
+      reads = here_all_leaves P P p n.hi true n.reads h.reads;
+      masks = here_all_leaves Q Never q n.hi (steps.masks_wait n) n.masks h.masks;
     }
 
     others : Along (steps.others_part n)
     others = record {
-      reads = others_all_leaves P p true n.reads h.reads;
-      masks = others_all_leaves Q q (steps.masks_wait n) n.masks h.masks;
+      reads = others_all_leaves P P p true n.reads h.reads;
+      masks = others_all_leaves Q Never q (steps.masks_wait n) n.masks h.masks;
     }
 
-    inside : (k : Kind) → EachAllLeaves P (looplets (steps.inside_all k n.hi n.reads)) × EachAllLeaves Q (looplets (steps.inside_all k n.hi n.masks))
+    inside : (k : Kind) → EachAllLeaves P P (looplets (steps.inside_all k n.hi n.reads)) × EachAllLeaves Q Never (looplets (steps.inside_all k n.hi n.masks))
     inside k = (
-      mapped_leaves P p (steps.inside_one k n.hi) (inside_leaves P p k n.hi) n.reads h.reads,
-      mapped_leaves Q q (steps.inside_one k n.hi) (inside_leaves Q q k n.hi) n.masks h.masks,
+      mapped_leaves P P p (steps.inside_one k n.hi) (inside_leaves P P p k n.hi) n.reads h.reads,
+      mapped_leaves Q Never q (steps.inside_one k n.hi) (inside_leaves Q Never q k n.hi) n.masks h.masks,
     )
 
     abbrev AllAlong : along.Parts → Type 0
@@ -102,9 +102,11 @@ module _ (P Q : Leaf → Type 0) (p : Lasting P) (q : Lasting Q) where
         (one_along Along (steps.stepper_part n) (record { reads = (inside kind.Stepper).0; masks = (inside kind.Stepper).1 })))
 
 pub parts_keep_leaves : (P Q : Leaf → Type 0) → PartsKeepLeaves P Q
-parts_keep_leaves P Q p q n h =
-    by_if (λ (ns : List Nest). All (HasLeaves P Q) ns) (style.is_point_style (style.style_of (points.all_looplets n))) _ _ (points_have P Q p q n h)
-    (All-map (HasLeaves P Q) as_point (steps.parts_of (as_stepping n)).nests (steps_have P Q p q (as_stepping n) (record { reads = h.reads; masks = h.masks })))
+parts_keep_leaves P Q p gap n h =
+    let reads = of_reads P p in
+    let masks = of_masks Q gap in
+    by_if (λ (ns : List Nest). All (HasLeaves P Q) ns) (style.is_point_style (style.style_of (points.all_looplets n))) _ _ (points_have P Q reads masks n h)
+    (All-map (HasLeaves P Q) as_point (steps.parts_of (as_stepping n)).nests (steps_have P Q reads masks (as_stepping n) (record { reads = h.reads; masks = h.masks })))
 
 -- ---- runs
 
@@ -118,6 +120,17 @@ runs_keep_leaves P (Stepper' k walker ∷ rest) e h = absurd (cc)
 runs_keep_leaves P (Jumper' k walker ∷ rest) e h = absurd (cc)
 runs_keep_leaves P (Switch' n cases ∷ rest) e h = absurd (cc)
 runs_keep_leaves P (Shift' by k child ∷ rest) e h = absurd (cc)
+
+pub flat_are_runs : (P : Leaf → Type 0) → FlatAreRuns P
+flat_are_runs P [] flat h = tt
+flat_are_runs P (Run leaf ∷ rest) flat h = ((leaf, refl, h.0), flat_are_runs P rest flat.1 h.1)
+flat_are_runs P (Spike body tail ∷ rest) (is, flat) h = absurd (cc)
+flat_are_runs P (Lookup coord leaf ∷ rest) flat h = absurd h.0
+flat_are_runs P (Sequence' n phases ∷ rest) (is, flat) h = absurd (cc)
+flat_are_runs P (Stepper' k walker ∷ rest) (is, flat) h = absurd (cc)
+flat_are_runs P (Jumper' k walker ∷ rest) (is, flat) h = absurd (cc)
+flat_are_runs P (Switch' n cases ∷ rest) (is, flat) h = absurd (cc)
+flat_are_runs P (Shift' by k child ∷ rest) (is, flat) h = absurd (cc)
 
 -- ---- properties that last
 

@@ -2,7 +2,14 @@
 //! it is.
 ghost use Rattle.fin_looplet.specs.declared.looplet.Leaf.{Leaf};
 ghost use Rattle.fin_descend.specs.Jumpless.{PartsAreOfLoop, JumplessDontJump};
-ghost use Rattle.fin_descend.specs.Leaves.{Lasting, PartsKeepLeaves, RunsKeepLeaves, LeafWorded, IsNumberOrGap};
+ghost use Rattle.fin_descend.specs.Leaves.{
+  Lasting,
+  PartsKeepLeaves,
+  RunsKeepLeaves,
+  FlatAreRuns,
+  LeafWorded,
+  IsNumberOrGap,
+};
 ghost use Rattle.fin_descend.specs.Holes.{FramesCompose, StepsHaveHoles};
 ghost use Rattle.fin_descend.specs.Parts.{PartsComeLater};
 ghost use Rattle.fin_descend.specs.Sparing.{PartsSpare, FillsSpare, SparesLess};
@@ -27,7 +34,8 @@ pub trait LeafProperty {
     ghost holds: { Leaf → Type 0 };
 }
 
-/// Where leaves in a nest's reads have a property that lasts, and leaves in its masks another, so it is in its parts.
+/// Where leaves in a nest's reads have a property that lasts, and leaves in its masks another and are under no lookups, so
+/// it is in its parts.
 pub fn parts_keep_leaves<P: LeafProperty, Q: LeafProperty>()
     ensures { PartsKeepLeaves P.holds Q.holds }
 {}
@@ -35,6 +43,11 @@ pub fn parts_keep_leaves<P: LeafProperty, Q: LeafProperty>()
 /// Looplets that have come to runs are runs of leaves with the property.
 pub fn runs_keep_leaves<P: LeafProperty>()
     ensures { RunsKeepLeaves P.holds }
+{}
+
+/// Flat looplets that hold no lookup are runs of leaves with the property.
+pub fn flat_are_runs<P: LeafProperty>()
+    ensures { FlatAreRuns P.holds }
 {}
 
 /// It lasts that fills are words.

@@ -1,5 +1,5 @@
 -- A nest by whose heads nothing is left of the loop's body is nothing, and what is known of a nest is known of its parts.
-use Rattle.std.proofs.Common.{◌≡◌, ℕ, List, ◌++◌, map, refl, sym, ap, ◌∙◌, arith, Bool}
+use Rattle.std.proofs.Common.{◌≡◌, inr, ℕ, List, ◌++◌, map, refl, sym, ap, ◌∙◌, arith, Bool}
 use Rattle.fin_stage.specs.Staged.{Run}
 use Rattle.fin_nest.specs.Courses.{nest_with}
 use Rattle.fin_nest.specs.Entries.{numbers}
@@ -20,7 +20,7 @@ use Rattle.fin_known.proofs.Heads.{heads_tell_nothing}
 use Rattle.fin_perform.specs.Layouts.{start_with}
 use Rattle.fin_loops.specs.Facts.{IsTruthOrGap, NothingIsTold, PartsAreKnown}
 use Rattle.fin_loops.specs.Loops.{watching, behind_of}
-use Rattle.fin_loops.proofs.FactsWords.{nest_worded, truths_last}
+use Rattle.fin_loops.proofs.FactsWords.{nest_worded}
 use Rattle.fin_loops.proofs.Points.{in_all}
 
 pub nothing_is_told : NothingIsTold
@@ -59,5 +59,5 @@ parts_are_known l facts ds n weight jumpless knows k d lt =
       words = knows.words;
       literals = knows.literals;
       slots_are = knows.slots_are ∙ same_slots ds n _ of.of;
-      leaves = parts_keep_leaves LeafWorded IsTruthOrGap words_last truths_last n knows.leaves k d lt;
+      leaves = parts_keep_leaves LeafWorded IsTruthOrGap words_last (inr refl) n knows.leaves k d lt;
     }

@@ -14,7 +14,6 @@ use Rattle.fin_looplet.specs.declared.looplet.Leaf.TheVariants.{Fill, Value, Sub
 use Rattle.fin_looplet.specs.declared.looplet.Looplet.{Looplet}
 use Rattle.fin_looplet.specs.declared.looplet.Looplet.TheVariants.{Run, Spike, Lookup, Sequence', Stepper', Jumper', Switch', Shift'}
 use Rattle.fin_looplet.specs.View.{value, leaf_sight, view, Seen}
-use Rattle.fin_looplet.specs.Weight.{is_run}
 use Rattle.fin_nest.specs.declared.entries.Numbered.{Numbered}
 use Rattle.fin_nest.specs.Entries.{looplets, numbers}
 use Rattle.fin_simp.specs.declared.facts.Gap.{Gap}
@@ -27,7 +26,7 @@ use Rattle.fin_style_point.specs.declared.nest.Nest.{Nest}
 use Rattle.fin_style_point.specs.Parts.{all_looplets}
 use Rattle.fin_style_point.specs.Steps.{is_flat, AllFlat}
 use Rattle.fin_descend.specs.Leaves.{EachRuns, IsNumberOrGap}
-use Rattle.fin_descend.proofs.Lasting.{runs_keep_leaves}
+use Rattle.fin_descend.proofs.Lasting.{flat_are_runs}
 use Rattle.fin_known.specs.Telling.{leaf_fill, fill_told, truth_told, fill_at, truth_at, and_gap, gaps_told, and_test, tests_told, marks_told, slot_of, read_slots, slots_of}
 use Rattle.fin_known.proofs.Heads.{gaps_right, tests_right, gaps_both, tests_both}
 use Rattle.fin_loops.specs.Facts.{IsTruthOrGap, KnowsOf}
@@ -35,7 +34,7 @@ use Rattle.fin_loops.specs.FactsPoints.{IsKnown, PointsAreTold}
 use Rattle.fin_loops.specs.Loops.{Loop, around}
 use Rattle.fin_loops.specs.Points.{seen_bare, marks_by, AreSettled}
 use Rattle.fin_loops.proofs.FactsApart.{is_other, AreApart, slots_are_apart}
-use Rattle.fin_loops.proofs.Known.{both_runs, runs_flat, no_fill}
+use Rattle.fin_loops.proofs.Known.{runs_flat, no_fill}
 
 -- ---- options and tests
 
@@ -235,13 +234,17 @@ module _ (ms : List Numbered) (h : EachRuns IsTruthOrGap (looplets ms)) where
 
 -- ---- the law
 
+last_flat : (ls ks : List Looplet) → AllFlat (ls ++ ks) → AllFlat ks
+last_flat [] ks flat = flat
+last_flat (l ∷ ls) ks flat = last_flat ls ks flat.1
+
 module _ (l : Loop) (facts : Facts) (ds : List Bool) (n : Nest) (knows : KnowsOf l facts ds n) where
   apart_here : AreApart (slots_of ds n)
   apart_here = subst AreApart knows.slots_are (slots_are_apart l)
 
-  module _ (flat : AllFlat (all_looplets n)) (masks : list_all is_run (looplets n.masks) ≡ true) where
+  module _ (flat : AllFlat (all_looplets n)) where
     runs : EachRuns IsTruthOrGap (looplets n.masks)
-    runs = runs_keep_leaves IsTruthOrGap (looplets n.masks) masks knows.leaves.masks
+    runs = flat_are_runs IsTruthOrGap (looplets n.masks) (last_flat (looplets n.reads) (looplets n.masks) flat) knows.leaves.masks
 
     told_here : marks_told facts ds n ≡ marks_by (marks facts) (slots_of ds n) (all_looplets n)
     told_here =
@@ -260,12 +263,8 @@ module _ (l : Loop) (facts : Facts) (ds : List Bool) (n : Nest) (knows : KnowsOf
       settled = subst (λ (xs : List Slot). AreSettled xs (all_looplets n)) (sym knows.slots_are) (all_settled n.masks runs ds n.reads);
     }
 
-last_runs : (ls ks : List Looplet) → list_all is_run (ls ++ ks) ≡ true → list_all is_run ks ≡ true
-last_runs [] ks e = e
-last_runs (l ∷ ls) ks e = last_runs ls ks (both_runs l (ls ++ ks) e).1
-
 pub points_are_told : PointsAreTold
 points_are_told l facts ds n knows = record {
-  flat = λ flat masks. known l facts ds n knows flat masks;
-  runs = λ runs. known l facts ds n knows (runs_flat (all_looplets n) runs) (last_runs (looplets n.reads) (looplets n.masks) runs);
+  flat = known l facts ds n knows;
+  runs = λ runs. known l facts ds n knows (runs_flat (all_looplets n) runs);
 }

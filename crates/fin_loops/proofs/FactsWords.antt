@@ -1,22 +1,18 @@
 -- Looplets whose fills are words tell words.
-use Rattle.std.proofs.Common.{◌≡◌, inl, inr, ℕ, Bool, true, false, ◌&&◌, List, [], ◌∷◌, ◌++◌, Option, Some, None, if◌then◌else◌, refl, sym, ap, subst, ◌∙◌, ℤ}
+use Rattle.std.proofs.Common.{◌≡◌, inl, inr, ℕ, Bool, true, false, ◌&&◌, List, [], ◌∷◌, ◌++◌, Option, Some, None, if◌then◌else◌, refl, sym, subst, ℤ}
 use Rattle.std.specs.Prelude.{IfSome, nat_eq}
 use Rattle.std.specs.Option.{option_or}
 use Rattle.fin_base.specs.Words.{IsWord}
-use Rattle.fin_ir.specs.declared.expression.IExpr.{IExpr}
-use Rattle.fin_ir.specs.declared.expression.IExpr.TheVariants.{rolls-Num}
-use Rattle.fin_ir.proofs.Nodes.{of_num}
 use Rattle.fin_looplet.specs.declared.looplet.Leaf.{Leaf}
 use Rattle.fin_looplet.specs.declared.looplet.Leaf.TheVariants.{Fill, Value, Sub}
 use Rattle.fin_looplet.specs.declared.looplet.Looplet.{Looplet, Row_of-Phase, end_of-Phase, more_of-Phase, Row_of-Walker, end_of-Walker, more_of-Walker, Row_of-Case, end_of-Case, more_of-Case, end_of-Looplet, more_of-Looplet}
 use Rattle.fin_looplet.specs.declared.looplet.Looplet.TheVariants.{Run, Spike, Lookup, Sequence', Stepper', Jumper', Switch', Shift'}
-use Rattle.fin_looplet.specs.Moved.{put_step, put_leaf, lowered}
 use Rattle.fin_nest.specs.declared.entries.Numbered.{Numbered}
 use Rattle.fin_nest.specs.Entries.{looplets}
-use Rattle.fin_simp.specs.Facts.{gap_in, truth_of}
+use Rattle.fin_simp.specs.Facts.{gap_in}
 use Rattle.fin_style_point.specs.declared.nest.Nest.{Nest}
 use Rattle.fin_style_point.specs.Parts.{all_looplets}
-use Rattle.fin_descend.specs.Leaves.{AllLeaves, PhasesAllLeaves, WalkerAllLeaves, CasesAllLeaves, EachAllLeaves, Lasting, HasLeaves, LeafWorded}
+use Rattle.fin_descend.specs.Leaves.{AllLeaves, PhasesAllLeaves, WalkerAllLeaves, CasesAllLeaves, EachAllLeaves, Never, HasLeaves, LeafWorded}
 use Rattle.fin_descend.proofs.Lasting.{words_last}
 use Rattle.fin_known.specs.Telling.{fill_told, fill_at, gaps_told}
 use Rattle.fin_known.specs.Words as told
@@ -34,43 +30,33 @@ truth_worded : (leaf : Leaf) → IsTruthOrGap leaf → told.LeafWorded leaf
 truth_worded leaf (inl (b, is)) = subst told.LeafWorded (sym is) tt
 truth_worded leaf (inr is) = subst told.LeafWorded (sym is) words_last.nothing
 
-truth_stays : (coord : ℕ) (by : IExpr) (leaf : Leaf) → IsTruthOrGap leaf → IsTruthOrGap (put_leaf coord (lowered coord by) leaf)
-truth_stays coord by leaf (inl h) =
-    let z = truth_of h.0 in
-    inl (h.0, ap (put_leaf coord (lowered coord by)) h.1 ∙ ap (λ (e : IExpr). Value e) (of_num IExpr (put_step coord (lowered coord by)) z ∙ rolls-Num z))
-truth_stays coord by leaf (inr h) = inr (ap (put_leaf coord (lowered coord by)) h)
-
--- it lasts that the leaves of masks are truths, or gaps
-pub truths_last : Lasting IsTruthOrGap
-truths_last = record { moved = truth_stays; nothing = inr refl }
-
 -- ---- looplets
 
-module _ (P : Leaf → Type 0) (are : (leaf : Leaf) → P leaf → told.LeafWorded leaf) where
+module _ (P L : Leaf → Type 0) (are : (leaf : Leaf) → P leaf → told.LeafWorded leaf) (looked_up : (leaf : Leaf) → L leaf → told.LeafWorded leaf) where
   mutual
-    all_worded : (l : Looplet) → AllLeaves P l → told.Worded l
+    all_worded : (l : Looplet) → AllLeaves P L l → told.Worded l
     all_worded (Run leaf) h = are leaf h
     all_worded (Spike body tail) h = (are body h.0, are tail h.1)
-    all_worded (Lookup coord leaf) h = are leaf h
+    all_worded (Lookup coord leaf) h = looked_up leaf h
     all_worded (Sequence' n phases) h = phases_worded phases h
     all_worded (Stepper' p walker) h = walker_worded walker h
     all_worded (Jumper' p walker) h = walker_worded walker h
     all_worded (Switch' n cases) h = cases_worded cases h
     all_worded (Shift' by p (more_of-Looplet child end_of-Looplet)) h = all_worded child h
 
-    phases_worded : {n : _} (ps : Row_of-Phase n) → PhasesAllLeaves P ps → told.PhasesWorded ps
+    phases_worded : {n : _} (ps : Row_of-Phase n) → PhasesAllLeaves P L ps → told.PhasesWorded ps
     phases_worded end_of-Phase h = tt
     phases_worded (more_of-Phase stop child rest) h = (all_worded child h.0, phases_worded rest h.1)
 
-    walker_worded : {n : _} (w : Row_of-Walker n) → WalkerAllLeaves P w → told.WalkerWorded w
+    walker_worded : {n : _} (w : Row_of-Walker n) → WalkerAllLeaves P L w → told.WalkerWorded w
     walker_worded end_of-Walker h = tt
     walker_worded (more_of-Walker cursor seek stop child rest) h = all_worded child h
 
-    cases_worded : {n : _} (cs : Row_of-Case n) → CasesAllLeaves P cs → told.CasesWorded cs
+    cases_worded : {n : _} (cs : Row_of-Case n) → CasesAllLeaves P L cs → told.CasesWorded cs
     cases_worded end_of-Case h = tt
     cases_worded (more_of-Case test child rest) h = (all_worded child h.0, cases_worded rest h.1)
 
-  pub each_worded : (ls : List Looplet) → EachAllLeaves P ls → told.AllWorded ls
+  pub each_worded : (ls : List Looplet) → EachAllLeaves P L ls → told.AllWorded ls
   each_worded [] h = tt
   each_worded (l ∷ ls) h = (all_worded l h.0, each_worded ls h.1)
 
@@ -78,10 +64,13 @@ both_worded : (ls ks : List Looplet) → told.AllWorded ls → told.AllWorded ks
 both_worded [] ks h k = k
 both_worded (l ∷ ls) ks h k = (h.0, both_worded ls ks h.1 k)
 
+reads_worded : (n : Nest) → HasLeaves LeafWorded IsTruthOrGap n → told.AllWorded (looplets n.reads)
+reads_worded n h = each_worded LeafWorded LeafWorded leaf_worded leaf_worded (looplets n.reads) h.reads
+
 pub nest_worded : (n : Nest) → HasLeaves LeafWorded IsTruthOrGap n → told.AllWorded (all_looplets n)
 nest_worded n h =
-    both_worded (looplets n.reads) (looplets n.masks) (each_worded LeafWorded leaf_worded (looplets n.reads) h.reads)
-    (each_worded IsTruthOrGap truth_worded (looplets n.masks) h.masks)
+    both_worded (looplets n.reads) (looplets n.masks) (reads_worded n h)
+    (each_worded IsTruthOrGap Never truth_worded (λ leaf h. absurd h) (looplets n.masks) h.masks)
 
 -- ---- what is told
 
@@ -120,6 +109,6 @@ words_are_told l facts ds n knows = record {
       let gaps = gaps_told (fill_at ds n.reads) n.reads in
       subst (λ (o : Option ℤ). IfSome o IsWord) (sym (gaps_both facts.gaps.now gaps k))
       (words_or (gap_in facts.gaps.now k) (gap_in gaps k) (knows.words.reads k)
-      (λ f e. read_worded ds n.reads k f (each_worded LeafWorded leaf_worded (looplets n.reads) knows.leaves.reads) (gaps_right (fill_at ds n.reads) n.reads k f e)));
+      (λ f e. read_worded ds n.reads k f (reads_worded n knows.leaves) (gaps_right (fill_at ds n.reads) n.reads k f e)));
   vars = knows.words.vars;
 }

@@ -33,7 +33,7 @@ run_flat (looplet.Jumper' p walker) e = cc
 run_flat (looplet.Switch' n cases) e = cc
 run_flat (looplet.Shift' by p child) e = cc
 
-pub both_runs : (l : Looplet) (rest : List Looplet) → list_all is_run (l ∷ rest) ≡ true → (is_run l ≡ true) × (list_all is_run rest ≡ true)
+both_runs : (l : Looplet) (rest : List Looplet) → list_all is_run (l ∷ rest) ≡ true → (is_run l ≡ true) × (list_all is_run rest ≡ true)
 both_runs l rest e = elim (is_run l) as (λ b. is_run l ≡ b → (b && list_all is_run rest) ≡ true → (is_run l ≡ true) × (list_all is_run rest ≡ true)) [
   | true ↦ (λ f h. (f, h))
   | false ↦ (λ f h. cc)

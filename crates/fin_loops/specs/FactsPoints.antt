@@ -2,7 +2,6 @@
 use Rattle.std.specs.Prelude.{◌≡◌, Bool, true, List}
 use Rattle.std.specs.List.{list_all}
 use Rattle.fin_looplet.specs.Weight.{is_run}
-use Rattle.fin_nest.specs.Entries.{looplets}
 use Rattle.fin_simp.specs.declared.facts.Facts.{Facts}
 use Rattle.fin_style_point.specs.declared.nest.Nest.{Nest}
 use Rattle.fin_style_point.specs.Parts.{all_looplets}
@@ -17,9 +16,9 @@ pub record IsKnown (l : Loop) (facts : Facts) (ds : List Bool) (n : Nest) : Type
   pub marks : marks_told facts ds n ≡ marks_at_point l n
   pub settled : AreSettled (slots l) (all_looplets n)
 
--- along runs and lookups, of which the masks are runs, and so where all have come to runs
+-- along runs and lookups, and so where all have come to runs
 pub record PointIsTold (l : Loop) (facts : Facts) (ds : List Bool) (n : Nest) : Type 0 where
-  pub flat : AllFlat (all_looplets n) → list_all is_run (looplets n.masks) ≡ true → IsKnown l facts ds n
+  pub flat : AllFlat (all_looplets n) → IsKnown l facts ds n
   pub runs : list_all is_run (all_looplets n) ≡ true → IsKnown l facts ds n
 
 abbrev pub PointsAreTold : Type 0

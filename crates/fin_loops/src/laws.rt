@@ -144,8 +144,7 @@ pub fn words_are_told()
     ensures { WordsAreTold }
 {}
 
-/// Along runs and lookups, of which the masks are runs, what a nest of a loop tells is what is known at each of its
-/// coordinates.
+/// Along runs and lookups, what a nest of a loop tells is what is known at each of its coordinates.
 pub fn points_are_told()
     ensures { PointsAreTold }
 {}
