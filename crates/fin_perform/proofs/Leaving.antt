@@ -28,9 +28,11 @@ use Rattle.fin_perform.specs.Appending.{Appends}
 use Rattle.fin_perform.specs.Codes.{unpaid_update, end_of}
 use Rattle.fin_perform.specs.Layouts.{heads_in}
 use Rattle.fin_perform.specs.Meanings.{Deed, Means, stmt_deed, turns_deed}
+use Rattle.fin_perform.specs.Naming.{Names, NamesStmt, NamesAll}
 use Rattle.fin_perform.specs.Once.{unpaid, once_deed, MeansOnce}
 use Rattle.fin_perform.specs.Places.{left_of, left_of_all}
 use Rattle.fin_perform.specs.Working.{literal_at, test_at}
+use Rattle.fin_perform.proofs.Naming.{parts, leaves, bodies}
 use Rattle.fin_perform.proofs.UnpaidMeanings.{once_compose}
 
 -- ---- kinds
@@ -108,11 +110,12 @@ module _ (m : Marks) where
 
 -- ---- one statement after another
 
--- what codes mean for these they mean for the whole
+-- what codes mean for these they mean for the whole, for which they are named too
 abbrev pub Whole : ℕ → Marks → List Stmt → Here → List Stmt → Here → Type 0
 Whole next m xs h whole outset =
-    (c : Checked) (need : ℕ) (cs : List Code) → Means c next need cs (unpaid (turns_deed xs h (Some m)))
-    → Means c next need cs (unpaid (turns_deed whole outset (Some m)))
+    (c : Checked) (need : ℕ) (cs : List Code)
+    → (Means c next need cs (unpaid (turns_deed xs h (Some m))) → Means c next need cs (unpaid (turns_deed whole outset (Some m))))
+    × (NamesAll c next need cs xs → NamesAll c next need cs whole)
 
 module _ (m : Marks) (x : Stmt) (rest body : List Stmt) (h : Here) (is : body ≡ x ∷ rest) (one : Are m body h) where
   abbrev all_one : Are m (x ∷ rest) h
@@ -129,8 +132,10 @@ module _ (m : Marks) (x : Stmt) (rest body : List Stmt) (h : Here) (is : body �
     from_all = subst (λ (b : List Stmt). Whole next m b h whole outset) is goes
 
     pub later_whole : (after : Here) → is_nothing x h m ≡ true → after ≡ past_stmt x h → Whole next m rest after whole outset
-    later_whole after e past c need cs a =
-        from_all c need cs ((once_compose c next need m).later x rest h cs e (subst (λ (k : Here). Means c next need cs (unpaid (turns_deed rest k (Some m)))) past a))
+    later_whole after e past c need cs = (
+      λ a. (from_all c need cs).0 ((once_compose c next need m).later x rest h cs e (subst (λ (k : Here). Means c next need cs (unpaid (turns_deed rest k (Some m)))) past a)),
+      λ a. (from_all c need cs).1 ((parts c next need).later x rest cs a),
+    )
 
     pub alone_appends : (heads : Heads) (need : ℕ) (old before new : List Code) → before ≡ old → is_nothing x h m ≡ false
         → Appends heads next need before new (unpaid (stmt_deed x h (Some m))) → Appends heads next need old new (once_deed whole outset (Some m))
@@ -139,7 +144,8 @@ module _ (m : Marks) (x : Stmt) (rest body : List Stmt) (h : Here) (is : body �
       appended = a.appended ∙ ap (λ (cs : List Code). cs ++ a.codes) same;
       means = λ c k.
           let laws : MeansOnce c next need m = once_compose c next need m in
-          laws.body whole outset a.codes (from_all c need a.codes (laws.alone x rest h a.codes (alone_one m x rest h all_one e).1 (a.means c k)));
+          laws.body whole outset a.codes ((from_all c need a.codes).0 (laws.alone x rest h a.codes (alone_one m x rest h all_one e).1 (a.means c k)));
+      named = λ c k. (from_all c need a.codes).1 ((parts c next need).first x rest a.codes (a.named c k));
       room = a.room;
     }
 
@@ -150,8 +156,9 @@ module _ (heads : Heads) (need : ℕ) (old new : List Code) where
   Adds next d = Appends heads next need old new d
 
   -- the same codes for another deed
-  adds_as : (next : ℕ) (d e : Deed) → ((c : Checked) (cs : List Code) → Means c next need cs d → Means c next need cs e) → Adds next d → Adds next e
-  adds_as next d e f a = record { codes = a.codes; appended = a.appended; means = λ c k. f c a.codes (a.means c k); room = a.room }
+  adds_as : (next : ℕ) (d e : Deed) → ((c : Checked) (cs : List Code) → Means c next need cs d → Means c next need cs e)
+      → ((c : Checked) (cs : List Code) → Names c next need cs d.bound d.named → Names c next need cs e.bound e.named) → Adds next d → Adds next e
+  adds_as next d e f g a = record { codes = a.codes; appended = a.appended; means = λ c k. f c a.codes (a.means c k); named = λ c k. g c a.codes (a.named c k); room = a.room }
 
   pub block_appends : (next : ℕ) (m : Marks) (x : Stmt) (body body' : List Stmt) (line last : ℕ) (h : Here) → x ≡ s.Block body line last → body' ≡ body → Is m x h
       → Adds next (once_deed body' h (Some m)) → Adds next (unpaid (stmt_deed x h (Some m)))
@@ -159,7 +166,7 @@ module _ (heads : Heads) (need : ℕ) (old new : List Code) where
       let there : Is m (s.Block body line last) h = subst (λ (y : Stmt). Is m y h) is one in
       subst (λ (y : Stmt). Adds next (unpaid (stmt_deed y h (Some m)))) (sym is)
       (adds_as next (once_deed body h (Some m)) (unpaid (stmt_deed (s.Block body line last) h (Some m)))
-      (λ c cs. (once_compose c next need m).block body line last h cs (some_left m (s.Block body line last) h there))
+      (λ c cs. (once_compose c next need m).block body line last h cs (some_left m (s.Block body line last) h there)) (λ c cs. (bodies c next need).block body line last cs)
       (subst (λ (b : List Stmt). Adds next (once_deed b h (Some m))) same a))
 
   pub cond_appends : (next next' : ℕ) (m m' : Marks) (x : Stmt) (test : Expr) (body body' : List Stmt) (line last : ℕ) (h k : Here) → x ≡ s.Cond test body line last → body' ≡ body
@@ -172,7 +179,7 @@ module _ (heads : Heads) (need : ℕ) (old new : List Code) where
       let at_body : Adds next' (once_deed body (behind_test test h) (Some m)) = subst (λ (b : List Stmt). Adds next' (once_deed b (behind_test test h) (Some m))) same at_k in
       subst (λ (y : Stmt). Adds next (unpaid (stmt_deed y h (Some m)))) (sym is)
       (adds_as next (once_deed body (behind_test test h) (Some m)) (unpaid (stmt_deed (s.Cond test body line last) h (Some m)))
-      (λ c cs. (once_compose c next need m).known test body line last h q.0.0 cs (some_left m (s.Cond test body line last) h there) q.0.1)
+      (λ c cs. (once_compose c next need m).known test body line last h q.0.0 cs (some_left m (s.Cond test body line last) h there) q.0.1) (λ c cs. (bodies c next need).known test body line last cs)
       (subst (λ (n : ℕ). Adds n (once_deed body (behind_test test h) (Some m))) from at_body))
 
 pub block_are : (m : Marks) (x : Stmt) (body body' : List Stmt) (line last : ℕ) (h : Here) → x ≡ s.Block body line last → body' ≡ body → Is m x h → Are m body' h
@@ -233,6 +240,9 @@ module _ (gaps : List Gap) (known : List Known) (vars vars' items : List Bound) 
           subst (λ (y : Stmt). Means c next need (Assign var (Num found.0) ∷ a.codes) (unpaid (stmt_deed y h (Some m)))) (sym is)
           ((once_compose c next need m).literal var value body line last h found.0 a.codes
           (some_left m (s.Bind var value body line last) h (subst (λ (y : Stmt). Is m y h) is one)) found.1.0 a.room (body_means c k));
+      named = λ c k.
+          subst (λ (y : Stmt). NamesStmt c next need (Assign var (Num found.0) ∷ a.codes) y) (sym is)
+          ((bodies c next need).assigned var value body line last found.0 a.codes a.room (subst (NamesAll c next need a.codes) same (a.named c k)));
       room = a.room;
     }
 
@@ -256,5 +266,9 @@ update_appends heads next need old new m x t at at' by value line h is same one 
           subst (λ (y : Stmt). Means c next need codes (unpaid (stmt_deed y h (Some m)))) (sym is)
           (subst (λ (g : Heads). Means c next need (unpaid_update g t at by (value_code g value next)) (unpaid (stmt_deed (s.Update t at by value line) h (Some m)))) k
           ((once_compose c next need m).update t at by value line h (some_left m (s.Update t at by value line) h there) enough));
+      named = λ c k.
+          let enough : end_of (value_code (heads_in c) value next) ≤ need = subst (λ (g : Heads). end_of (value_code g value next) ≤ need) (sym k) (omega (arith, need_is)) in
+          subst (λ (y : Stmt). NamesStmt c next need codes y) (sym is)
+          (subst (λ (g : Heads). NamesStmt c next need (unpaid_update g t at by (value_code g value next)) (s.Update t at by value line)) k ((leaves c next need).unpaid t at by value line enough));
       room = omega (arith, need_is, code_grows heads value next);
     }

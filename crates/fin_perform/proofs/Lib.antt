@@ -12,6 +12,8 @@ pub mod Leaves
 pub mod Leaving
 pub mod Lets
 pub mod Meanings
+pub mod Naming
+pub mod NamingNodes
 pub mod Programs
 pub mod Putting
 pub mod Scoped

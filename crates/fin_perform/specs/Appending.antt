@@ -11,14 +11,16 @@ use Rattle.fin_simp.specs.Rest.{OneUpdate}
 use Rattle.fin_perform.specs.declared.once.Site.{Site}
 use Rattle.fin_perform.specs.Layouts.{heads_in}
 use Rattle.fin_perform.specs.Meanings.{Deed, Means, stmt_deed}
+use Rattle.fin_perform.specs.Naming.{Names}
 use Rattle.fin_perform.specs.Once.{unpaid, once_deed}
 use Rattle.fin_perform.specs.Places.{left_of, left_of_all}
 
--- The codes behind the others mean the deed, in each program with these headers.
+-- The codes behind the others mean the deed, in each program with these headers, and name what its layout has.
 pub record Appends (heads : Heads) (next need : ℕ) (old new : List Code) (d : Deed) : Type 0 where
   pub codes : List Code
   pub appended : new ≡ old ++ codes
   pub means : (c : Checked) → heads_in c ≡ heads → Means c next need codes d
+  pub named : (c : Checked) → heads_in c ≡ heads → Names c next need codes d.bound d.named
   pub room : next ≤ need
 
 -- ---- by what is known at a site

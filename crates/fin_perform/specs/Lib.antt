@@ -8,6 +8,7 @@ pub mod Bodies
 pub mod Inside
 pub mod Places
 pub mod Meanings
+pub mod Naming
 pub mod Once
 pub mod Appending
 pub mod Built

@@ -3,6 +3,7 @@ ghost use Rattle.fin_perform.specs.Begun.{BegunMachinesStand};
 ghost use Rattle.fin_perform.specs.Bodies.{BodiesPerform, TestsPerform, LetsPerform};
 ghost use Rattle.fin_perform.specs.Inside.{PlacesInside};
 ghost use Rattle.fin_perform.specs.Meanings.{MeaningsCompose};
+ghost use Rattle.fin_perform.specs.Naming.{CodesAreNamed, ScopesGoInside};
 ghost use Rattle.fin_perform.specs.Once.{OnceCompose};
 ghost use Rattle.fin_perform.specs.Programs.{ProgramsStand};
 ghost use Rattle.fin_perform.specs.Performing.{NothingPerforms, LeavesPerform};
@@ -62,4 +63,15 @@ pub fn once_compose()
 /// pieces does, over inputs that fit an accepted program.
 pub fn programs_stand()
     ensures { ProgramsStand }
+{}
+
+/// Where the names of statements are good in a scope, the program's layout has each local and tensor that their codes name:
+/// those of statements without bodies, and those round codes of bodies that are named.
+pub fn codes_are_named()
+    ensures { CodesAreNamed }
+{}
+
+/// A scope of the program is so from a later local on, and inside a loop and a let.
+pub fn scopes_go_inside()
+    ensures { ScopesGoInside }
 {}

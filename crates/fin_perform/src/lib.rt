@@ -26,6 +26,9 @@
 //! A piece of which one update is left that is the same at each coordinate is paid at once. The codes of such a body pay
 //! nothing: `push_once` appends them where the rest of a body by what is known is one update (`specs/Appending.antt`),
 //! and they mean the body without its work (`specs/Once.antt`); `once_compose` puts them together from their parts.
+//!
+//! A machine runs code that names no local and no tensor but those of its layout. `codes_are_named` says so of the codes of
+//! statements (`specs/Naming.antt`), from a first free local on, in the scopes in which the statements' names are good.
 #![tactic(auto)]
 
 mod around;
@@ -35,8 +38,9 @@ mod single;
 
 pub use around::{Let, cond_code, let_code, literal_code};
 pub use laws::{
-    begun_machines_stand, bodies_perform, leaves_perform, lets_perform, meanings_compose,
-    nothing_performs, once_compose, places_inside, programs_stand, tests_perform,
+    begun_machines_stand, bodies_perform, codes_are_named, leaves_perform, lets_perform,
+    meanings_compose, nothing_performs, once_compose, places_inside, programs_stand,
+    scopes_go_inside, tests_perform,
 };
 pub use once::{Site, push_once, push_unpaid};
 pub use single::{
