@@ -17,3 +17,6 @@ pub mod Masking
 pub mod Pushing
 pub mod LoopEntry
 pub mod MadeEntry
+pub mod NamingSteps
+pub mod NamingLooplets
+pub mod Naming

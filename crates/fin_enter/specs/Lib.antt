@@ -16,3 +16,5 @@ pub mod Entering
 pub mod EntryCodes
 pub mod MadeEntry
 pub mod Lasting
+pub mod NamedLooplets
+pub mod Naming

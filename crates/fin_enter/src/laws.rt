@@ -11,6 +11,7 @@ ghost use Rattle.fin_enter.specs.Entering.{EntriesAreEntrances};
 ghost use Rattle.fin_enter.specs.Lasting.{EntriesLast};
 ghost use Rattle.fin_enter.specs.EntryCodes.{EntriesAreKnown, EntryCodesEnter};
 ghost use Rattle.fin_enter.specs.Masked.{AllBoundsMean, MasksAreTests};
+ghost use Rattle.fin_enter.specs.Naming.{EntriesAreNamed};
 
 use fin_drive::distances_mean;
 use fin_read::values_mean;
@@ -129,3 +130,9 @@ pub fn entries_last()
     bounds_mean();
     distances_mean();
 }
+
+/// Where what remains of a loop's body has good names in a scope, each local and tensor that the codes of the loop's entry
+/// and the looplets of its nest name is in a layout with room for the entry.
+pub fn entries_are_named()
+    ensures { EntriesAreNamed }
+{}

@@ -11,6 +11,7 @@
 //! `enter` makes all of it: the code, and the looplets of the nest under their numbers. `specs/LoopEntry.antt` has them
 //! as functions of the loop's variable and what remains of its body. `specs/Entering.antt` says that behind the steps
 //! that nest is an entrance of the loop, `specs/EntryCodes.antt` what a machine has done behind the code.
+//! `specs/Naming.antt` says in which layouts the code and the looplets are named, which a machine asks of what it runs.
 #![tactic(auto)]
 
 mod body;
@@ -30,9 +31,9 @@ pub use entrance::{Entrance, LoopHead, enter};
 pub use entry::push_charges;
 pub use laws::{
     all_bounds_mean, all_positions_are_found, bounds_are_free, bounds_mean, entrances_are_made,
-    entries_are_entrances, entries_are_known, entries_are_paid, entries_last, entry_codes_enter,
-    footed_reads_stand, indices_are_bound, lengths_mean, masks_are_tests, positions_are_found,
-    stored_reads_are_found, tensors_are_stored, tensors_have_formats,
+    entries_are_entrances, entries_are_known, entries_are_named, entries_are_paid, entries_last,
+    entry_codes_enter, footed_reads_stand, indices_are_bound, lengths_mean, masks_are_tests,
+    positions_are_found, stored_reads_are_found, tensors_are_stored, tensors_have_formats,
 };
 pub use lengths::{entry_lengths, stored_length};
 pub use looplets::{read_looplet, read_looplets};
