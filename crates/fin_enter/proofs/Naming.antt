@@ -1,16 +1,14 @@
 -- The codes of a loop's entry and the looplets of its nest are named where the names of what remains of its body are good.
-use Rattle.std.proofs.Common.{◌≡◌, ℕ, ◌+◌, ◌<◌, ◌≤◌, ℤ, pos, Bool, true, false, ◌&&◌, if◌then◌else◌, List, [], ◌∷◌, ◌++◌, map, length, Option, Some, None, refl, subst, sym, ◌∙◌, arith}
+use Rattle.std.proofs.Common.{◌≡◌, ℕ, ◌+◌, ◌<◌, ◌≤◌, ℤ, pos, Bool, true, false, ◌&&◌, if◌then◌else◌, List, [], ◌∷◌, ◌++◌, map, length, Option, Some, None, refl, subst, arith}
 use Rattle.std.specs.Prelude.{slice_get, slice_index_or, nat_lt, nat_eq, ◌==◌}
 use Rattle.std.specs.List.{list_all}
 use Rattle.std.proofs.lemmas.Bool.{lt-ltb}
-use Rattle.fin_base.specs.declared.terms.Op.{Op}
 use Rattle.fin_base.specs.declared.terms.Op.TheVariants as op
 use Rattle.fin_tensor.specs.declared.format.Level.{Level}
 use Rattle.fin_tensor.specs.declared.format.Level.TheVariants as level
 use Rattle.fin_ast.specs.declared.header.Header.{Header}
 use Rattle.fin_ast.specs.declared.tree.Index.{Index}
 use Rattle.fin_ast.specs.Scope.{Scope, holds_of, is_loop, is_index, is_access, differ}
-use Rattle.fin_ir.specs.declared.code.Code.{Code}
 use Rattle.fin_ir.specs.declared.code.Code.TheVariants.{Charge}
 use Rattle.fin_ir.specs.declared.expression.IExpr.{IExpr}
 use Rattle.fin_ir.specs.declared.expression.IExpr.TheVariants.{Num, Local, Two}
@@ -19,14 +17,13 @@ use Rattle.fin_ir.specs.Named.{is_named_in, is_named}
 use Rattle.fin_looplet.specs.declared.looplet.Looplet.{Looplet}
 use Rattle.fin_stage.proofs.Alive.{left, right, both, holds_there}
 use Rattle.fin_read.specs.Reads.{block_length, place_of}
-use Rattle.fin_read.specs.Steps.{Step, assign_of}
+use Rattle.fin_read.specs.Steps.{assign_of}
 use Rattle.fin_read.specs.Values.{Lowered, format_of, shape_of, index_code, value_code}
 use Rattle.fin_read.proofs.Equations.{code_grows}
 use Rattle.fin_read.proofs.Indexing.{loop_is_bound}
 use Rattle.fin_read.proofs.Naming.{local_below, num, local, AllNamed, AreNamed, indices_named, values_are_named}
 use Rattle.fin_simp.specs.Rest.{Access, Rest}
 use Rattle.fin_simp.specs.Sights.{driven_index}
-use Rattle.fin_simp.specs.Work.{is_in}
 use Rattle.fin_drive.specs.declared.reading.Reading.{Reading}
 use Rattle.fin_drive.specs.Looplets.{other_of, other, back_offset, back_from, back, driven_looplet, turned_round}
 use Rattle.fin_perform.proofs.NamingNodes.{named_charge, one_more, some_more}
@@ -37,7 +34,7 @@ use Rattle.fin_enter.specs.NamedLooplets.{NamedLooplet, AllNamedLooplets}
 use Rattle.fin_enter.specs.Naming.{CanName, EntriesAreNamed}
 use Rattle.fin_enter.specs.Positions.{spot_in}
 use Rattle.fin_enter.specs.Together.{Around, settled_index, steps_of, behind_place, all_positions, behind_all}
-use Rattle.fin_enter.proofs.Entering.{cursor_grows, cursors_grow}
+use Rattle.fin_enter.proofs.Entering.{cursors_grow}
 use Rattle.fin_enter.proofs.Indices.{driven_holds}
 use Rattle.fin_enter.proofs.Masked.{bounds_grow}
 use Rattle.fin_enter.proofs.NamingLooplets.{driven_named, mask_named}

@@ -1,6 +1,6 @@
 -- The codes of a loop's entry and the looplets of its nest name locals and tensors of each layout that has the
 -- program's tensors and as many locals as the entry takes.
-use Rattle.std.specs.Prelude.{◌≡◌, ℕ, ◌≤◌, true, List, length}
+use Rattle.std.specs.Prelude.{◌≡◌, ℕ, ◌≤◌, true, length}
 use Rattle.std.specs.List.{list_all}
 use Rattle.fin_ast.specs.Scope.{Scope, is_access}
 use Rattle.fin_ir.specs.declared.layout.Layout.{Layout}

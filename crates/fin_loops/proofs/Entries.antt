@@ -1,18 +1,17 @@
 -- What a loop's entry asks is there wherever the loop stands, and its codes leave the place as it was and pay for the entry.
-use Rattle.std.proofs.Common.{◌≡◌, ℕ, zero, suc, ◌+◌, ◌-◌, ◌<◌, ◌≤◌, ◌^◌, Bool, true, false, ◌&&◌, ⊎_elim, List, [], ◌∷◌, ◌++◌, length, Option, Some, None, if◌then◌else◌}
+use Rattle.std.proofs.Common.{◌≡◌, ℕ, zero, suc, ◌+◌, ◌-◌, ◌<◌, ◌≤◌, ◌^◌, Bool, true, false, ◌&&◌, ⊎_elim, List, [], ◌∷◌, length, Option, Some, None, if◌then◌else◌}
 use Rattle.std.proofs.Common.{refl, sym, ap, ◌∙◌, subst, ℤ, pos, arith}
 use Rattle.std.specs.Prelude.{not, is_some, ◌||◌, ◌==◌, nat_eq, slice_get, slice_index_or, unwrap_or, option_map}
 use Rattle.std.specs.List.{list_all}
 use Rattle.std.specs.Option.{option_or}
 use Rattle.std.proofs.lemmas.Bool.{or_cases, or_left, or_right}
 use Rattle.std.proofs.lemmas.Bool.Decides.{nat_tests}
-use Rattle.std.proofs.lemmas.List.Folds.{list_any-append}
 use Rattle.fin_tensor.specs.Building.{no_format}
 use Rattle.fin_tensor.specs.TensorFunction.{TensorFunction}
 use Rattle.fin_ast.specs.declared.header.Header.{Header}
 use Rattle.fin_ast.specs.declared.tree.Expr.{Expr, map-Expr, out-Expr, fold_out-Expr}
 use Rattle.fin_ast.specs.declared.tree.Expr.TheOpen.{Expr-F}
-use Rattle.fin_ast.specs.Bindings.{bindings_step, bindings_of_all, counts_from}
+use Rattle.fin_ast.specs.Bindings.{bindings_step, counts_from}
 use Rattle.fin_ast.specs.Dense.{made_at}
 use Rattle.fin_ast.specs.Scope.{Scope, is_among, is_bound, holds_of, is_access, is_index, expr_step, is_named_expr, stmt_step, are_named, within_loop}
 use Rattle.fin_ast.specs.Shaped.{AreRanged}
@@ -62,9 +61,9 @@ use Rattle.fin_loops.specs.Entering.{stmt_of, Spot, StandsAt, world_at}
 use Rattle.fin_loops.specs.Parallel.{range_in}
 use Rattle.fin_loops.specs.Sourced.{Sourced, entry_code_of}
 use Rattle.fin_loops.specs.Tops.{own_end, looplets_from, IsNumbered}
-use Rattle.fin_loops.proofs.Named.{Has, AllLoops, has_loop, reads_remain, accesses_named, tests_named}
+use Rattle.fin_loops.proofs.Enclosing.{enclosing, has_own, has_inner, all_loops}
+use Rattle.fin_loops.proofs.Named.{reads_remain, accesses_named, tests_named}
 use Rattle.fin_loops.proofs.Rests.{rests_are, slots_are}
-use Rattle.fin_loops.proofs.Standing.{itself}
 
 -- ---- small facts
 
@@ -140,7 +139,7 @@ module _ (sc : Scope) (var : ℕ) where
   and_bound None ts h all = all
   and_bound (Some t) ts h all = (h, all)
 
-  all_bound : (ts : List Test) → list_all (λ (t : Test). is_named_expr t.expr sc) ts ≡ true → AllCanBound sc var (tested_among var ts)
+  pub all_bound : (ts : List Test) → list_all (λ (t : Test). is_named_expr t.expr sc) ts ≡ true → AllCanBound sc var (tested_among var ts)
   all_bound [] e = tt
   all_bound (t ∷ ts) e =
       let own = left (is_named_expr t.expr sc) (list_all (λ (z : Test). is_named_expr z.expr sc) ts) e in
@@ -196,26 +195,7 @@ module _ (l : Loop) (range : Option (ℕ × ℕ)) (par : Bool) (line last next n
   -- ---- one scope for all names of the body
 
   abbrev pub big : Scope
-  big = record { headers = q.scope.headers; loops = bound_in l ++ q.scope.loops; lets = q.scope.lets }
-
-  has_own : (y : ℕ) → is_among big.loops y ≡ (is_among (bound_in l) y || is_among q.scope.loops y)
-  has_own y = list_any-append (nat_eq y) (bound_in l) q.scope.loops
-
-  bound_big : (y : ℕ) → is_among (bound_in l) y ≡ true → is_among big.loops y ≡ true
-  bound_big y e = has_own y ∙ or_left (is_among (bound_in l) y) (is_among q.scope.loops y) e
-
-  has_scope : Has big q.scope
-  has_scope = record {
-    headers = refl;
-    loops = λ y e. has_own y ∙ or_right (is_among (bound_in l) y) (is_among q.scope.loops y) e;
-    lets = λ y e. or_right (is_among big.loops y) (is_among big.lets y) e;
-  }
-
-  has_inner : Has big (within_loop q.scope l.var)
-  has_inner = has_loop big q.scope l.var has_scope (bound_big l.var (itself l.var (bindings_of_all l.body)))
-
-  all_loops : AllLoops big (bindings_of_all l.body)
-  all_loops v e = bound_big v (or_right (nat_eq v l.var) (is_among (bindings_of_all l.body) v) e)
+  big = enclosing l q.scope
 
   pub named : are_named l.body (within_loop q.scope l.var) ≡ true
   named = sym (ap (λ (f : Scope → Bool). f q.scope) (of_loop (Scope → Bool) stmt_step l.var range par l.body line last)) ∙ at.named
@@ -225,7 +205,7 @@ module _ (l : Loop) (range : Option (ℕ × ℕ)) (par : Bool) (line last next n
   not_before y e lt = let after = numbered_from l.var (bound_in l) numbered.counts y e in omega (arith, after, lt)
 
   loop_around : (y : ℕ) → is_among big.loops y ≡ true → y < l.var → is_among q.scope.loops y ≡ true
-  loop_around y e lt = ⊎_elim (λ own. absurd (not_before y own lt)) (λ outer. outer) (or_cases (is_among (bound_in l) y) (is_among q.scope.loops y) (sym (has_own y) ∙ e))
+  loop_around y e lt = ⊎_elim (λ own. absurd (not_before y own lt)) (λ outer. outer) (or_cases (is_among (bound_in l) y) (is_among q.scope.loops y) (sym (has_own l q.scope y) ∙ e))
 
   bound_around : (y : ℕ) → is_bound big y ≡ true → y < l.var → is_bound q.scope y ≡ true
   bound_around y e lt = ⊎_elim (λ among. or_left (is_among q.scope.loops y) (is_among q.scope.lets y) (loop_around y among lt))
@@ -325,7 +305,7 @@ module _ (l : Loop) (range : Option (ℕ × ℕ)) (par : Bool) (line last next n
 
     pub reads_drive : AllCanDrive h big e rest.reads
     reads_drive =
-        all_drive rest.reads (reads_all _ (accesses_named big (within_loop q.scope l.var) has_inner l.body all_loops named l.here context))
+        all_drive rest.reads (reads_all _ (accesses_named big (within_loop q.scope l.var) (has_inner l q.scope) l.body (all_loops l q.scope) named l.here context))
         (reads_all _ (reads_remain (λ (a : Access). small_offsets a.at) l.body l.here context sourced.small))
         (reads_all _ (reads_remain (access_stays w.setting) l.body l.here context (sourced.stay q.inputs)))
         (left (list_all (can_be_read w r rest.changed) rest.reads) (not par || list_all (is_absent w r) (all_fresh body)) able)
@@ -333,7 +313,7 @@ module _ (l : Loop) (range : Option (ℕ × ℕ)) (par : Bool) (line last next n
     pub tests_bound : AllCanBound big l.var (tests_in e)
     tests_bound =
         all_bound big l.var rest.tests (ap (λ (z : Rest). list_all (λ (t : Test). is_named_expr t.expr big) z.tests) told
-        ∙ tests_named big (within_loop q.scope l.var) has_inner l.body all_loops named l.here context)
+        ∙ tests_named big (within_loop q.scope l.var) (has_inner l q.scope) l.body (all_loops l q.scope) named l.here context)
 
     pub can_be : (range_in l).0 ≤ (range_in l).1 → CanEnter h big e next
     can_be ordered = record {

@@ -17,6 +17,7 @@ pub mod Tops
 pub mod TopsJumpless
 pub mod TopsNamed
 pub mod Named
+pub mod Enclosing
 pub mod Entries
 pub mod Sourced
 pub mod Sources
@@ -35,3 +36,4 @@ pub mod Facts
 pub mod FactsNumbers
 pub mod FactsApart
 pub mod FactsPoints
+pub mod NamingTops

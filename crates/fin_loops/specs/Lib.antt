@@ -14,3 +14,4 @@ pub mod Fixed
 pub mod Chunked
 pub mod Facts
 pub mod FactsPoints
+pub mod Naming

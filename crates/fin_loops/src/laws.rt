@@ -7,6 +7,7 @@ ghost use Rattle.fin_loops.specs.Facts.{NothingIsTold, PartsAreKnown, WordsAreTo
 ghost use Rattle.fin_loops.specs.FactsPoints.{PointsAreTold};
 ghost use Rattle.fin_loops.specs.Fixed.{FixedMeans};
 ghost use Rattle.fin_loops.specs.Keeping.{NestsAreSeparate};
+ghost use Rattle.fin_loops.specs.Naming.{TopsAreNamed};
 ghost use Rattle.fin_loops.specs.Parallel.{ParallelLoopsMean};
 ghost use Rattle.fin_loops.specs.Points.{PointsMean, LoopsGoOn};
 ghost use Rattle.fin_loops.specs.Sourced.{EntriesEnter};
@@ -86,6 +87,12 @@ pub fn tops_keep_out()
 /// The looplets of a loop's entry hold no jumpers.
 pub fn tops_hold_no_jumpers()
     ensures { TopsHoldNoJumpers }
+{}
+
+/// Where the names of a loop are good in the scope around it, each local and tensor that the codes of its entry and its nest
+/// name is in the program's layout with room for them.
+pub fn tops_are_named()
+    ensures { TopsAreNamed }
 {}
 
 /// The nest of a loop as its entry makes it is separate wherever the loop may stand.

@@ -15,7 +15,8 @@
 //! codes in words that are seen where the code is made (`specs/Keeping.antt`, `specs/Sparing.antt`). The nest that an entry
 //! makes meets them (`tops_keep_out`, `tops_are_separate`, `tops_hold_no_jumpers`: `specs/Tops.antt`), and the codes of the
 //! entry enter the loop wherever it stands, at once or chunk by chunk (`entries_enter`, `chunks_enter`:
-//! `specs/Sourced.antt`, `specs/Chunked.antt`).
+//! `specs/Sourced.antt`, `specs/Chunked.antt`). Both name what is in the program's layout (`tops_are_named`:
+//! `specs/Naming.antt`).
 #![tactic(auto)]
 
 mod laws;
@@ -24,6 +25,6 @@ pub use laws::{
     chunks_enter, codes_spare, empty_loops_mean, entries_enter, entries_spare, fixed_means,
     loops_go_on, loops_in_chunks, loops_mean, nests_are_separate, nests_told, nothing_is_told,
     opened_stand, parallel_loops_mean, parts_are_known, points_are_told, points_mean,
-    programs_are_sources, sources_hand_down, sources_of_loops, tops_are_separate,
+    programs_are_sources, sources_hand_down, sources_of_loops, tops_are_named, tops_are_separate,
     tops_hold_no_jumpers, tops_keep_out, words_are_told,
 };
