@@ -14,6 +14,7 @@ pub mod Lets
 pub mod Meanings
 pub mod Naming
 pub mod NamingNodes
+pub mod NamingPrograms
 pub mod Programs
 pub mod Putting
 pub mod Scoped

@@ -43,7 +43,7 @@ all_may_bind c count k (v ∷ vs) e le is =
     (record { below = omega (arith, same, le); counted = omega (arith, same, le, is); binds = refl; apart = apart_from v (k + 1) vs (omega (arith, same)) rest }, all_may_bind c count (k + 1) vs rest (omega (arith, le)) is)
 
 module _ (c : Checked) (accepted : IsAccepted c) where
-  enough : 0 + length (bindings_of_all c.program.body) ≤ variables_in c
+  pub enough : 0 + length (bindings_of_all c.program.body) ≤ variables_in c
   enough =
       let e : c.dims.ranges ≡ ranges_of accepted.extents.extent (places_in c.program) = ap (λ (d : Dims). d.ranges) accepted.extents.numbers in
       omega (arith, ap length e, ranges_count accepted.extents.extent c.program.body)

@@ -8,6 +8,7 @@ use Rattle.fin_ast.specs.declared.tree.Index.{Index}
 use Rattle.fin_ast.specs.declared.tree.Expr.{Expr}
 use Rattle.fin_ast.specs.declared.tree.Stmt.{Stmt}
 use Rattle.fin_ast.specs.declared.tree.Stmt.TheVariants as s
+use Rattle.fin_ast.specs.Accepted.{IsAccepted}
 use Rattle.fin_ast.specs.Bindings.{bindings_of, bindings_of_all}
 use Rattle.fin_ast.specs.Scope.{Scope, within_loop, within_let, are_named}
 use Rattle.fin_ast.specs.Scope as names
@@ -109,8 +110,16 @@ pub record NamesBodies (c : Checked) (next need : ℕ) : Type 0 where
       → NamesAll c next need cs xs → NamesStmt c next need (Assign var (Num n) ∷ cs) (s.Bind var value xs line last)
   pub evaluated : (var : ℕ) (value : Expr) (xs : List Stmt) (line last : ℕ) (cs : List Code)
       → end_of (value_code (heads_in c) value next) ≤ need → NamesAll c next need cs xs
-      → NamesStmt c next need (let_code var (value_code (heads_in c) value next) cs ∷ []) (s.Bind var value xs line last)
+      → NamesStmt c next need (let_code var (value_code (heads_in c) value next) cs ∷ [])
+      (s.Bind var value xs line last)
 
 abbrev pub CodesAreNamed : Type 0
 CodesAreNamed = (c : Checked) (next need : ℕ)
     → NamesParts c next need × NamesLeaves c next need × NamesBodies c next need
+
+-- ---- a whole program
+
+-- codes of an accepted program's statements, with a local for each variable before their own
+abbrev pub ProgramsAreNamed : Type 0
+ProgramsAreNamed = (c : Checked) (need : ℕ) (cs : List Code) → IsAccepted c
+    → NamesAll c (variables_in c) need cs c.program.body → (room : ℕ) → need ≤ room → AreIn c room cs

@@ -3,7 +3,7 @@ ghost use Rattle.fin_perform.specs.Begun.{BegunMachinesStand};
 ghost use Rattle.fin_perform.specs.Bodies.{BodiesPerform, TestsPerform, LetsPerform};
 ghost use Rattle.fin_perform.specs.Inside.{PlacesInside};
 ghost use Rattle.fin_perform.specs.Meanings.{MeaningsCompose};
-ghost use Rattle.fin_perform.specs.Naming.{CodesAreNamed, ScopesGoInside};
+ghost use Rattle.fin_perform.specs.Naming.{CodesAreNamed, ProgramsAreNamed, ScopesGoInside};
 ghost use Rattle.fin_perform.specs.Once.{OnceCompose};
 ghost use Rattle.fin_perform.specs.Programs.{ProgramsStand};
 ghost use Rattle.fin_perform.specs.Performing.{NothingPerforms, LeavesPerform};
@@ -74,4 +74,10 @@ pub fn codes_are_named()
 /// A scope of the program is so from a later local on, and inside a loop and a let.
 pub fn scopes_go_inside()
     ensures { ScopesGoInside }
+{}
+
+/// Codes that are named where the names of an accepted program's statements are good, outside all loops, are named in its
+/// layout.
+pub fn programs_are_named()
+    ensures { ProgramsAreNamed }
 {}

@@ -39,8 +39,8 @@ mod single;
 pub use around::{Let, cond_code, let_code, literal_code};
 pub use laws::{
     begun_machines_stand, bodies_perform, codes_are_named, leaves_perform, lets_perform,
-    meanings_compose, nothing_performs, once_compose, places_inside, programs_stand,
-    scopes_go_inside, tests_perform,
+    meanings_compose, nothing_performs, once_compose, places_inside, programs_are_named,
+    programs_stand, scopes_go_inside, tests_perform,
 };
 pub use once::{Site, push_once, push_unpaid};
 pub use single::{
