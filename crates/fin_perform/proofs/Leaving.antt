@@ -11,6 +11,10 @@ use Rattle.fin_ast.specs.declared.tree.Stmt.TheVariants as s
 use Rattle.fin_ir.specs.declared.code.Code.{Code}
 use Rattle.fin_ir.specs.declared.code.Code.TheVariants.{Assign}
 use Rattle.fin_ir.specs.declared.expression.IExpr.TheVariants.{Num}
+use Rattle.fin_ir.specs.Declares.{Tensors, some_of, declares_step, declares}
+use Rattle.fin_ir.proofs.Nodes.{of_assign}
+use Rattle.fin_nest.specs.Sparing.{Staying, all_spare, spare_step, spares}
+use Rattle.fin_stage.proofs.Alive.{both}
 use Rattle.fin_read.specs.Values.{Heads, value_code}
 use Rattle.fin_read.proofs.Equations.{code_grows}
 use Rattle.fin_simp.specs.declared.facts.Gap.{Gap}
@@ -33,6 +37,8 @@ use Rattle.fin_perform.specs.Once.{unpaid, once_deed, MeansOnce}
 use Rattle.fin_perform.specs.Places.{left_of, left_of_all}
 use Rattle.fin_perform.specs.Working.{literal_at, test_at}
 use Rattle.fin_perform.proofs.Naming.{parts, leaves, bodies}
+use Rattle.fin_perform.proofs.Spared.{neither, unpaid_spares, unpaid_declares_none}
+use Rattle.fin_perform.proofs.Staying.{Off, OffStmt, OffAll, off_later, off_first, off_block, off_cond, off_bind, off_bound, off_free, off_update}
 use Rattle.fin_perform.proofs.UnpaidMeanings.{once_compose}
 
 -- ---- kinds
@@ -113,9 +119,10 @@ module _ (m : Marks) where
 -- what codes mean for these they mean for the whole, for which they are named too
 abbrev pub Whole : ℕ → Marks → List Stmt → Here → List Stmt → Here → Type 0
 Whole next m xs h whole outset =
-    (c : Checked) (need : ℕ) (cs : List Code)
+    ((c : Checked) (need : ℕ) (cs : List Code)
     → (Means c next need cs (unpaid (turns_deed xs h (Some m))) → Means c next need cs (unpaid (turns_deed whole outset (Some m))))
-    × (NamesAll c next need cs xs → NamesAll c next need cs whole)
+    × (NamesAll c next need cs xs → NamesAll c next need cs whole))
+    × ((s : Staying) → OffAll s next whole outset (Some m) → OffAll s next xs h (Some m))
 
 module _ (m : Marks) (x : Stmt) (rest body : List Stmt) (h : Here) (is : body ≡ x ∷ rest) (one : Are m body h) where
   abbrev all_one : Are m (x ∷ rest) h
@@ -132,9 +139,14 @@ module _ (m : Marks) (x : Stmt) (rest body : List Stmt) (h : Here) (is : body �
     from_all = subst (λ (b : List Stmt). Whole next m b h whole outset) is goes
 
     pub later_whole : (after : Here) → is_nothing x h m ≡ true → after ≡ past_stmt x h → Whole next m rest after whole outset
-    later_whole after e past c need cs = (
-      λ a. (from_all c need cs).0 ((once_compose c next need m).later x rest h cs e (subst (λ (k : Here). Means c next need cs (unpaid (turns_deed rest k (Some m)))) past a)),
-      λ a. (from_all c need cs).1 ((parts c next need).later x rest cs a),
+    later_whole after e past = (
+      λ c need cs. (
+        λ a.
+            (from_all.0 c need cs).0
+            ((once_compose c next need m).later x rest h cs e (subst (λ (k : Here). Means c next need cs (unpaid (turns_deed rest k (Some m)))) past a)),
+        λ a. (from_all.0 c need cs).1 ((parts c next need).later x rest cs a),
+      ),
+      λ st off. subst (λ (k : Here). OffAll st next rest k (Some m)) (sym past) (off_later x rest h (Some m) st next (from_all.1 st off)),
     )
 
     pub alone_appends : (heads : Heads) (need : ℕ) (old before new : List Code) → before ≡ old → is_nothing x h m ≡ false
@@ -144,8 +156,10 @@ module _ (m : Marks) (x : Stmt) (rest body : List Stmt) (h : Here) (is : body �
       appended = a.appended ∙ ap (λ (cs : List Code). cs ++ a.codes) same;
       means = λ c k.
           let laws : MeansOnce c next need m = once_compose c next need m in
-          laws.body whole outset a.codes ((from_all c need a.codes).0 (laws.alone x rest h a.codes (alone_one m x rest h all_one e).1 (a.means c k)));
-      named = λ c k. (from_all c need a.codes).1 ((parts c next need).first x rest a.codes (a.named c k));
+          laws.body whole outset a.codes ((from_all.0 c need a.codes).0 (laws.alone x rest h a.codes (alone_one m x rest h all_one e).1 (a.means c k)));
+      named = λ c k. (from_all.0 c need a.codes).1 ((parts c next need).first x rest a.codes (a.named c k));
+      spares = λ st off. a.spares st (off_first x rest h (Some m) st next (from_all.1 st off));
+      declares = a.declares;
       room = a.room;
     }
 
@@ -157,8 +171,16 @@ module _ (heads : Heads) (need : ℕ) (old new : List Code) where
 
   -- the same codes for another deed
   adds_as : (next : ℕ) (d e : Deed) → ((c : Checked) (cs : List Code) → Means c next need cs d → Means c next need cs e)
-      → ((c : Checked) (cs : List Code) → Names c next need cs d.bound d.named → Names c next need cs e.bound e.named) → Adds next d → Adds next e
-  adds_as next d e f g a = record { codes = a.codes; appended = a.appended; means = λ c k. f c a.codes (a.means c k); named = λ c k. g c a.codes (a.named c k); room = a.room }
+      → ((c : Checked) (cs : List Code) → Names c next need cs d.bound d.named → Names c next need cs e.bound e.named) → Off next d e → Adds next d → Adds next e
+  adds_as next d e f g off a = record {
+    codes = a.codes;
+    appended = a.appended;
+    means = λ c k. f c a.codes (a.means c k);
+    named = λ c k. g c a.codes (a.named c k);
+    spares = λ s o. a.spares s (off s o);
+    declares = a.declares;
+    room = a.room;
+  }
 
   pub block_appends : (next : ℕ) (m : Marks) (x : Stmt) (body body' : List Stmt) (line last : ℕ) (h : Here) → x ≡ s.Block body line last → body' ≡ body → Is m x h
       → Adds next (once_deed body' h (Some m)) → Adds next (unpaid (stmt_deed x h (Some m)))
@@ -167,6 +189,7 @@ module _ (heads : Heads) (need : ℕ) (old new : List Code) where
       subst (λ (y : Stmt). Adds next (unpaid (stmt_deed y h (Some m)))) (sym is)
       (adds_as next (once_deed body h (Some m)) (unpaid (stmt_deed (s.Block body line last) h (Some m)))
       (λ c cs. (once_compose c next need m).block body line last h cs (some_left m (s.Block body line last) h there)) (λ c cs. (bodies c next need).block body line last cs)
+      (λ st off. off_block body line last h (Some m) st next off)
       (subst (λ (b : List Stmt). Adds next (once_deed b h (Some m))) same a))
 
   pub cond_appends : (next next' : ℕ) (m m' : Marks) (x : Stmt) (test : Expr) (body body' : List Stmt) (line last : ℕ) (h k : Here) → x ≡ s.Cond test body line last → body' ≡ body
@@ -180,6 +203,7 @@ module _ (heads : Heads) (need : ℕ) (old new : List Code) where
       subst (λ (y : Stmt). Adds next (unpaid (stmt_deed y h (Some m)))) (sym is)
       (adds_as next (once_deed body (behind_test test h) (Some m)) (unpaid (stmt_deed (s.Cond test body line last) h (Some m)))
       (λ c cs. (once_compose c next need m).known test body line last h q.0.0 cs (some_left m (s.Cond test body line last) h there) q.0.1) (λ c cs. (bodies c next need).known test body line last cs)
+      (λ st off. off_cond test body line last h (Some m) (some_left m (s.Cond test body line last) h there) st next off)
       (subst (λ (n : ℕ). Adds n (once_deed body (behind_test test h) (Some m))) from at_body))
 
 pub block_are : (m : Marks) (x : Stmt) (body body' : List Stmt) (line last : ℕ) (h : Here) → x ≡ s.Block body line last → body' ≡ body → Is m x h → Are m body' h
@@ -243,6 +267,18 @@ module _ (gaps : List Gap) (known : List Known) (vars vars' items : List Bound) 
       named = λ c k.
           subst (λ (y : Stmt). NamesStmt c next need (Assign var (Num found.0) ∷ a.codes) y) (sym is)
           ((bodies c next need).assigned var value body line last found.0 a.codes a.room (subst (NamesAll c next need a.codes) same (a.named c k)));
+      spares = λ st off.
+          let there : is_nothing (s.Bind var value body line last) h m ≡ false
+          = some_left m (s.Bind var value body line last) h (subst (λ (y : Stmt). Is m y h) is one) in
+          let here = subst (λ (y : Stmt). OffStmt st next y h (Some m)) is off in
+          let inside = off_bind var value body line last h (Some m) (Some found.0) found.1.0 there st next here in
+          let at_body : OffAll st next body' (here_at read' number) (Some inner) =
+          subst (λ (b : List Stmt). OffAll st next b (here_at read' number) (Some inner)) (sym same)
+          (subst (λ (j : Here). OffAll st next body j (Some inner)) (sym here_is)
+          (subst (λ (n : Marks). OffAll st next body (behind value h) (Some n)) (sym inner_is) inside)) in
+          both (spares st (Assign var (Num found.0))) _
+          (of_assign Bool (spare_step st) var (Num found.0) ∙ off_bound var value body line last h (Some m) st next here) (a.spares st at_body);
+      declares = λ t. neither (declares (Assign var (Num found.0)) t) _ (ap (λ (own : Tensors). own t) (of_assign Tensors declares_step var (Num found.0))) (a.declares t);
       room = a.room;
     }
 
@@ -270,5 +306,10 @@ update_appends heads next need old new m x t at at' by value line h is same one 
           let enough : end_of (value_code (heads_in c) value next) ≤ need = subst (λ (g : Heads). end_of (value_code g value next) ≤ need) (sym k) (omega (arith, need_is)) in
           subst (λ (y : Stmt). NamesStmt c next need codes y) (sym is)
           (subst (λ (g : Heads). NamesStmt c next need (unpaid_update g t at by (value_code g value next)) (s.Update t at by value line)) k ((leaves c next need).unpaid t at by value line enough));
+      spares = λ st off.
+          let here = subst (λ (y : Stmt). OffStmt st next y h (Some m)) is off in
+          unpaid_spares st heads t at by value next (λ y le. off_free y le st here.below)
+          (off_update t at by value line h (Some m) (some_left m (s.Update t at by value line) h there) st next here);
+      declares = unpaid_declares_none heads t at by (value_code heads value next);
       room = omega (arith, need_is, code_grows heads value next);
     }

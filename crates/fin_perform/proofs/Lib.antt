@@ -27,3 +27,5 @@ pub mod Updating
 pub mod Valued
 pub mod Weights
 pub mod Working
+pub mod Spared
+pub mod Staying

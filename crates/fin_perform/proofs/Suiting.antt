@@ -53,10 +53,10 @@ changed_join (x ∷ xs) ys h (Some m) =
     ap (λ (cs : List ℕ). (rest_of x h m).changed ++ cs) (changed_join xs ys (past_stmt x h) (Some m))
     ∙ beside_all (rest_of x h m).changed (left_of_all xs (past_stmt x h) (Some m)).changed (left_of_all ys (past_all (map past_stmt xs) (past_stmt x h)) (Some m)).changed
 
-in_left : (ys zs : List ℕ) (t : ℕ) → is_in ys t ≡ true → is_in (ys ++ zs) t ≡ true
+pub in_left : (ys zs : List ℕ) (t : ℕ) → is_in ys t ≡ true → is_in (ys ++ zs) t ≡ true
 in_left ys zs t e = list_any-append (nat_eq t) ys zs ∙ or_left (is_in ys t) (is_in zs t) e
 
-in_right : (ys zs : List ℕ) (t : ℕ) → is_in zs t ≡ true → is_in (ys ++ zs) t ≡ true
+pub in_right : (ys zs : List ℕ) (t : ℕ) → is_in zs t ≡ true → is_in (ys ++ zs) t ≡ true
 in_right ys zs t e = list_any-append (nat_eq t) ys zs ∙ or_right (is_in ys t) (is_in zs t) e
 
 -- ---- places
