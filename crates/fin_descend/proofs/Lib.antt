@@ -12,3 +12,7 @@ pub mod Framing
 pub mod Composing
 pub mod Holes
 pub mod Flats
+pub mod Naming
+pub mod NamingFills
+pub mod NamingLooplets
+pub mod NamingFrames

@@ -6,3 +6,4 @@ pub mod Jumpless
 pub mod Sparing
 pub mod Holes
 pub mod Flat
+pub mod Naming

@@ -1,5 +1,5 @@
-//! What is proved of nests without jumpers, of the leaves in nests, of free locals, and of what the code of a nest leaves as
-//! it is.
+//! What is proved of nests without jumpers, of the leaves in nests, of free locals, and of what the code of a nest names
+//! and leaves as it is.
 ghost use Rattle.fin_looplet.specs.declared.looplet.Leaf.{Leaf};
 ghost use Rattle.fin_descend.specs.Jumpless.{PartsAreOfLoop, JumplessDontJump};
 ghost use Rattle.fin_descend.specs.Leaves.{
@@ -13,6 +13,7 @@ ghost use Rattle.fin_descend.specs.Leaves.{
 ghost use Rattle.fin_descend.specs.Holes.{FramesCompose, StepsHaveHoles};
 ghost use Rattle.fin_descend.specs.Parts.{PartsComeLater};
 ghost use Rattle.fin_descend.specs.Sparing.{PartsSpare, FillsSpare, SparesLess};
+ghost use Rattle.fin_descend.specs.Naming.{PartsAreNamed, FillsAreNamed, MoreIsNamed};
 
 /// The parts of a nest of a loop without jumpers are nests of the loop without jumpers.
 pub fn parts_are_of_loop()
@@ -83,4 +84,19 @@ pub fn frames_compose()
 /// The frame of a step has a hole for each part.
 pub fn steps_have_holes()
     ensures { StepsHaveHoles }
+{}
+
+/// Where a nest is named in a layout with the locals of its step, the step's frame and parts are named.
+pub fn parts_are_named()
+    ensures { PartsAreNamed }
+{}
+
+/// Codes that are named, in a frame that is, make code that is.
+pub fn fills_are_named()
+    ensures { FillsAreNamed }
+{}
+
+/// What is named in a layout is named in a larger one.
+pub fn more_is_named()
+    ensures { MoreIsNamed }
 {}

@@ -36,9 +36,10 @@ pub use descending::descend;
 pub use fin_style_point::Nest;
 pub use flattening::{Asks, Flat, Leaf, Told, flatten};
 pub use laws::{
-    LeafProperty, fills_spare, flat_are_runs, frames_compose, jumpless_dont_jump, numbers_last,
-    parts_are_of_loop, parts_come_later, parts_keep_leaves, runs_keep_leaves, sparing_is_monotone,
-    steps_have_holes, steps_spare, words_last,
+    LeafProperty, fills_are_named, fills_spare, flat_are_runs, frames_compose, jumpless_dont_jump,
+    more_is_named, numbers_last, parts_are_named, parts_are_of_loop, parts_come_later,
+    parts_keep_leaves, runs_keep_leaves, sparing_is_monotone, steps_have_holes, steps_spare,
+    words_last,
 };
 pub use lowered::{Known, Lowered, filled, greater, nothing};
 pub use stepping::{Split, step, take_first};
