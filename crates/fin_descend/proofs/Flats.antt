@@ -1,11 +1,13 @@
 -- What the functions of a descent to leaves are proved by, one lemma for each goal, over what is known where it stands.
 use Rattle.std.proofs.Common.{◌≡◌, ℕ, ◌+◌, ◌<◌, ◌≤◌, max, List, [], ◌∷◌, ◌++◌, length, map, take, get_or, Bool, true, false, refl, sym, ap, subst, ◌∙◌, arith}
 use Rattle.std.specs.Prelude.{nat_eq, Result, Ok, Err, IfOk}
-use Rattle.std.specs.List.{All, AllZip}
+use Rattle.std.specs.List.{All, AllZip, list_all}
 use Rattle.std.proofs.lemmas.List.{take_more, length-append}
 use Rattle.std.proofs.lemmas.List.Elements.{All-nil, All-cons, All-append}
 use Rattle.std.proofs.lemmas.Result.{IfOk-weaker}
 use Rattle.fin_ir.specs.declared.code.Code.{Code}
+use Rattle.fin_ir.specs.declared.layout.Layout.{Layout}
+use Rattle.fin_ir.specs.Named.{is_named}
 use Rattle.fin_looplet.specs.Weight.{RunsAtPoint}
 use Rattle.fin_nest.specs.Courses.{nest_with, Meant}
 use Rattle.fin_nest.specs.Frames.{fill}
@@ -24,11 +26,15 @@ use Rattle.fin_descend.specs.Parts.{weight_in, parts_of, frame_of}
 use Rattle.fin_descend.specs.Promises.{Family, MeansIn, Divides, StaySeparate, MeanEach}
 use Rattle.fin_descend.specs.Sparing.{KeepsTo}
 use Rattle.fin_descend.specs.Holes.{holes, filled_each}
+use Rattle.fin_descend.specs.Naming.{NamedNest, step_end}
 use Rattle.fin_descend.specs.Flat.{one_leaf, Tells_of, OfLeaf, AtPoint, OfFixed, LeafMeans, MeanLeaves, with_codes, FlatMeans, Flattens, FlattenEach, FlattensSplit}
 use Rattle.fin_descend.proofs.Composing.{fill_composes, filled_holes, frames_behind, all_of_behind}
 use Rattle.fin_descend.proofs.Descents.{nothing_means, stepped_means, joined, mean_more, all_first, all_last, heavy, all_taken}
 use Rattle.fin_descend.proofs.Framing.{parts_spare, appended}
 use Rattle.fin_descend.proofs.Holes.{of_hole, step_holes}
+use Rattle.fin_descend.proofs.Naming.{named_skip, more_named, append_named}
+use Rattle.fin_descend.proofs.NamingFills.{fills_are_named}
+use Rattle.fin_descend.proofs.NamingFrames.{parts_are_named}
 use Rattle.fin_descend.proofs.Sparing.{and_both, spared_skip, fills_spare}
 
 -- ---- a leaf
@@ -42,11 +48,13 @@ module _ (family : Family) (comes fixed : Nest → Type 0) (n : Nest) where
   one_means leaf means (c ∷ (d ∷ cs)) room h = absurd h.1
 
   leaf_flattens : (leaf : Leaf) → ((c : Code) (room : ℕ) → LeafMeans family room leaf c → MeansIn family (record { code = c; room = room }) n)
-      → ((s : Staying) → KeepsTo s n → OfLeaf (KeepsTo s) leaf) → OfLeaf comes leaf → AtPoint leaf → OfFixed fixed leaf → Flattens family comes fixed (one_leaf leaf) n
+      → ((P : Nest → Type 0) → P n → OfLeaf P leaf) → OfLeaf comes leaf → AtPoint leaf → OfFixed fixed leaf → Flattens family comes fixed (one_leaf leaf) n
   leaf_flattens leaf means keeps come point known = record {
     holes = omega (arith, of_hole);
     means = one_means leaf means;
-    spares = λ s k. (spared_skip s, All-cons (OfLeaf (KeepsTo s)) leaf [] (keeps s k) (All-nil (OfLeaf (KeepsTo s))));
+    spares = λ s k. (spared_skip s, All-cons (OfLeaf (KeepsTo s)) leaf [] (keeps (KeepsTo s) k) (All-nil (OfLeaf (KeepsTo s))));
+    names = λ layout room k.
+        (named_skip layout, All-cons (OfLeaf (NamedNest layout)) leaf [] (keeps (NamedNest layout) k) (All-nil (OfLeaf (NamedNest layout))));
     come = All-cons (OfLeaf comes) leaf [] come (All-nil (OfLeaf comes));
     points = All-cons AtPoint leaf [] point (All-nil AtPoint);
     fixed = All-cons (OfFixed fixed) leaf [] known (All-nil (OfFixed fixed));
@@ -61,17 +69,17 @@ module _ (family : Family) (comes fixed : Nest → Type 0) (n : Nest) where
       → IfOk r (λ (f : Flat). Flattens family comes fixed f n)
   nothing_flattened r k tells is made =
       let nothing = subst (λ (x : Told). Tells_of family fixed n x) is tells in
-      returned r Nothing (leaf_flattens Nothing (λ c room e. nothing_means family n (record { code = c; room = room }) nothing e) (λ s k. tt) tt tt tt) made
+      returned r Nothing (leaf_flattens Nothing (λ c room e. nothing_means family n (record { code = c; room = room }) nothing e) (λ P k. tt) tt tt tt) made
 
   pub fixed_flattened : {E : Type 0} (r : Result Flat E) (k : Told) → comes n → Tells_of family fixed n k → k ≡ told.Fixed → IfOk r (λ (f : Flat). f ≡ one_leaf (Fixed n))
       → IfOk r (λ (f : Flat). Flattens family comes fixed f n)
   fixed_flattened r k come tells is made =
       let known = subst (λ (x : Told). Tells_of family fixed n x) is tells in
-      returned r (Fixed n) (leaf_flattens (Fixed n) (λ c room e. e) (λ s k. k) come tt known) made
+      returned r (Fixed n) (leaf_flattens (Fixed n) (λ c room e. e) (λ P k. k) come tt known) made
 
   pub point_flattened : {E : Type 0} (r : Result Flat E) → comes n → RunsAtPoint (all_looplets n) n.lo n.hi → IfOk r (λ (f : Flat). f ≡ one_leaf (Point n))
       → IfOk r (λ (f : Flat). Flattens family comes fixed f n)
-  point_flattened r come point made = returned r (Point n) (leaf_flattens (Point n) (λ c room e. e) (λ s k. k) come point tt) made
+  point_flattened r come point made = returned r (Point n) (leaf_flattens (Point n) (λ c room e. e) (λ P k. k) come point tt) made
 
 -- ---- a nest that may be stepped, and weighs something: its split
 
@@ -79,9 +87,9 @@ pub split_fits : (n : Nest) (p : Split) → p.frame ≡ frame_of n → p.nests �
 split_fits n p frame parts = ap holes frame ∙ step_holes n ∙ ap (λ (ns : List Nest). length ns) (sym parts)
 
 pub open_flattened : {E : Type 0} (family : Family) (comes fixed : Nest → Type 0) (n : Nest) (p : Split) (weightless : Bool) (r : Result Flat E) → weightless ≡ nat_eq (weight_in n) 0
-    → weightless ≡ false → Tells_of family fixed n told.Open → Divides p n → StaySeparate p n → p.frame ≡ frame_of n → p.nests ≡ parts_of n
+    → weightless ≡ false → Tells_of family fixed n told.Open → Divides p n → StaySeparate p n → p.frame ≡ frame_of n → p.nests ≡ parts_of n → p.room ≡ step_end n
     → IfOk r (λ (f : Flat). FlattensSplit family comes fixed p f) → IfOk r (λ (f : Flat). Flattens family comes fixed f n)
-open_flattened family comes fixed n p weightless r test weighs may divides apart frame parts made =
+open_flattened family comes fixed n p weightless r test weighs may divides apart frame parts end made =
     IfOk-weaker r (λ (f : Flat). FlattensSplit family comes fixed p f) (λ (f : Flat). Flattens family comes fixed f n) (λ f j. record {
       holes = j.holes;
       means = λ cs room h.
@@ -89,6 +97,10 @@ open_flattened family comes fixed n p weightless r test weighs may divides apart
       spares = λ s k.
           let kept = parts_spare s n k in
           j.spares s (subst (λ (c : Code). spares s c ≡ true) (sym frame) kept.0) (subst (λ (ns : List Nest). All (KeepsTo s) ns) (sym parts) kept.1);
+      names = λ layout fits k.
+          let below = j.room in
+          let named = parts_are_named layout n (omega (arith, end, below, fits)) k in
+          j.names layout fits (subst (λ (c : Code). is_named layout c ≡ true) (sym frame) named.0) (subst (λ (ns : List Nest). All (NamedNest layout) ns) (sym parts) named.1);
       come = j.come;
       points = j.points;
       fixed = j.fixed;
@@ -106,6 +118,9 @@ split_flattens family comes fixed p frames leaves each room e fits first second 
           (e.means cs more h) (omega (arith, second)) (fill_composes p.frame frames enough cs);
       room = first;
       spares = λ s around keeps. let kept = e.spares s keeps in (fills_spare s p.frame frames around kept.0, kept.1);
+      names = λ layout enough around all.
+          let named = e.names layout (omega (arith, second, enough)) all in
+          (fills_are_named layout p.frame frames around named.0, named.1);
       come = e.come;
       points = e.points;
       fixed = e.fixed;
@@ -161,6 +176,7 @@ at_first family comes fixed = record {
   holes = refl;
   means = none;
   spares = λ s keeps. (refl, All-nil (OfLeaf (KeepsTo s)));
+  names = λ layout fits all. (refl, All-nil (OfLeaf (NamedNest layout)));
   come = All-nil (OfLeaf comes);
   points = All-nil AtPoint;
   fixed = All-nil (OfFixed fixed);
@@ -197,6 +213,16 @@ module _ (family : Family) (comes fixed : Nest → Type 0) (ns : List Nest) (i :
       let here = one.spares s (all_last (KeepsTo s) (take i ns) n all) in
       (appended s frames (f.frame ∷ []) before.0 (and_both (spares s f.frame) true here.0 refl), All-append (OfLeaf (KeepsTo s)) leaves f.leaves before.1 here.1)
 
+  more_names : (layout : Layout) → more ≤ layout.locals → All (NamedNest layout) (take (i + 1) ns)
+      → (list_all (is_named layout) (frames ++ f.frame ∷ []) ≡ true) × All (OfLeaf (NamedNest layout)) (leaves ++ f.leaves)
+  more_names layout fits named =
+      let all = subst (λ (xs : List Nest). All (NamedNest layout) xs) taken named in
+      let before = so_far.names layout (omega (arith, first, fits)) (all_first (NamedNest layout) (take i ns) n all) in
+      let here = one.names layout (omega (arith, second, fits)) (all_last (NamedNest layout) (take i ns) n all) in (
+        append_named layout frames (f.frame ∷ []) before.0 (more_named layout f.frame [] here.0 refl),
+        All-append (OfLeaf (NamedNest layout)) leaves f.leaves before.1 here.1,
+      )
+
   one_more : FlattenEach family comes fixed (take (i + 1) ns) (frames ++ f.frame ∷ []) (leaves ++ f.leaves) more
   one_more = record {
     count =
@@ -205,6 +231,7 @@ module _ (family : Family) (comes fixed : Nest → Type 0) (ns : List Nest) (i :
     holes = omega (arith, all_of_behind frames f.frame, so_far.holes, one.holes, length-append leaves f.leaves);
     means = more_mean;
     spares = more_spare;
+    names = more_names;
     come = All-append (OfLeaf comes) leaves f.leaves so_far.come one.come;
     points = All-append AtPoint leaves f.leaves so_far.points one.points;
     fixed = All-append (OfFixed fixed) leaves f.leaves so_far.fixed one.fixed;

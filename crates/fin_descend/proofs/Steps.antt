@@ -19,6 +19,7 @@ use Rattle.fin_style_step.specs.Splits as step_splits
 use Rattle.fin_descend.specs.declared.stepping.Split.{Split}
 use Rattle.fin_descend.specs.Parts.{as_stepping, as_point, weight_in, parts_of, frame_of}
 use Rattle.fin_descend.specs.Promises.{Divides, AllLighter, StaySeparate}
+use Rattle.fin_descend.specs.Naming.{step_end}
 
 chosen : {A : Type 0} (b : Bool) (x y : A) → b ≡ true → x ≡ (if b then x else y)
 chosen true x y e = refl
@@ -27,6 +28,12 @@ chosen false x y e = absurd (cc)
 other : {A : Type 0} (b : Bool) (x y : A) → b ≡ false → y ≡ (if b then x else y)
 other true x y e = absurd (cc)
 other false x y e = refl
+
+pub end_at_points : (n : Nest) → is_point_style (style_of (points.all_looplets n)) ≡ true → n.next + 1 ≡ step_end n
+end_at_points n ours = chosen (is_point_style (style_of (points.all_looplets n))) (n.next + 1) (n.next + 3) ours
+
+pub end_along : (n : Nest) → is_point_style (style_of (points.all_looplets n)) ≡ false → n.next + 3 ≡ step_end n
+end_along n ours = other (is_point_style (style_of (points.all_looplets n))) (n.next + 1) (n.next + 3) ours
 
 -- ---- point by point
 

@@ -1,8 +1,10 @@
 -- A nest that is laid flat: a frame with a `Skip` for each of its leaves, whose codes are made afterwards.
 use Rattle.std.specs.Prelude.{◌≡◌, ◌≤◌, ℕ, max, true, List, [], ◌∷◌, length, map}
-use Rattle.std.specs.List.{All, AllZip}
+use Rattle.std.specs.List.{All, AllZip, list_all}
 use Rattle.fin_ir.specs.declared.code.Code.{Code}
 use Rattle.fin_ir.specs.declared.code.Code.TheVariants.{Skip}
+use Rattle.fin_ir.specs.declared.layout.Layout.{Layout}
+use Rattle.fin_ir.specs.Named.{is_named}
 use Rattle.fin_looplet.specs.Weight.{RunsAtPoint}
 use Rattle.fin_nest.specs.Frames.{fill}
 use Rattle.fin_nest.specs.Sparing.{Staying, all_spare, spares}
@@ -18,6 +20,7 @@ use Rattle.fin_descend.specs.declared.flattening.Leaf.TheVariants.{Point, Fixed,
 use Rattle.fin_descend.specs.declared.flattening.Flat.{Flat}
 use Rattle.fin_descend.specs.Promises.{Family, MeansIn, Tells, MeanEach, Joins}
 use Rattle.fin_descend.specs.Sparing.{KeepsTo}
+use Rattle.fin_descend.specs.Naming.{NamedNest}
 use Rattle.fin_descend.specs.Holes.{all_holes, holes, filled_each}
 
 -- ---- leaves
@@ -77,11 +80,17 @@ abbrev pub FlatSpares : Flat → Nest → Type 0
 FlatSpares flat n =
     (s : Staying) → KeepsTo s n → (spares s flat.frame ≡ true) × All (OfLeaf (KeepsTo s)) flat.leaves
 
+-- in a layout with the locals that it needs the frame is named where the nest is, and so are the leaves
+abbrev pub FlatNames : Flat → Nest → Type 0
+FlatNames flat n = (layout : Layout) → flat.room ≤ layout.locals → NamedNest layout n
+    → (is_named layout flat.frame ≡ true) × All (OfLeaf (NamedNest layout)) flat.leaves
+
 -- each hole is for a leaf, and so on; each leaf may come, and what is known of a fixed one is known
 pub record Flattens (family : Family) (comes of_fixed : Nest → Type 0) (flat : Flat) (n : Nest) : Type 0 where
   pub holes : holes flat.frame ≡ length flat.leaves
   pub means : FlatMeans family flat n
   pub spares : FlatSpares flat n
+  pub names : FlatNames flat n
   pub come : All (OfLeaf comes) flat.leaves
   pub points : All AtPoint flat.leaves
   pub fixed : All (OfFixed of_fixed) flat.leaves
@@ -96,6 +105,8 @@ pub record FlattenEach (family : Family) (comes of_fixed : Nest → Type 0) (ns 
       → MeanEach family ns (filled_each frames cs) (max room more)
   pub spares : (s : Staying) → All (KeepsTo s) ns
       → (all_spare (map (spares s) frames) ≡ true) × All (OfLeaf (KeepsTo s)) leaves
+  pub names : (layout : Layout) → room ≤ layout.locals → All (NamedNest layout) ns
+      → (list_all (is_named layout) frames ≡ true) × All (OfLeaf (NamedNest layout)) leaves
   pub come : All (OfLeaf comes) leaves
   pub points : All AtPoint leaves
   pub fixed : All (OfFixed of_fixed) leaves
@@ -107,6 +118,9 @@ pub record FlattensSplit (family : Family) (comes of_fixed : Nest → Type 0) (s
   pub room : split.room ≤ flat.room
   pub spares : (s : Staying) → spares s split.frame ≡ true → All (KeepsTo s) split.nests
       → (spares s flat.frame ≡ true) × All (OfLeaf (KeepsTo s)) flat.leaves
+  pub names : (layout : Layout) → flat.room ≤ layout.locals → is_named layout split.frame ≡ true
+      → All (NamedNest layout) split.nests
+      → (is_named layout flat.frame ≡ true) × All (OfLeaf (NamedNest layout)) flat.leaves
   pub come : All (OfLeaf comes) flat.leaves
   pub points : All AtPoint flat.leaves
   pub fixed : All (OfFixed of_fixed) flat.leaves

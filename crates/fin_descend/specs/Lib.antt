@@ -5,5 +5,5 @@ pub mod Heads
 pub mod Jumpless
 pub mod Sparing
 pub mod Holes
-pub mod Flat
 pub mod Naming
+pub mod Flat

@@ -21,6 +21,8 @@
 //!
 //! What the code of a nest leaves as it is in any machine, also where a run isn't regular, is seen from the code
 //! (`specs/Sparing.antt`): its frames assign only the looplets' own locals and those from the nest's first free one on.
+//! They name only locals and tensors of a layout in which the nest is named and which has the locals that the steps take
+//! (`specs/Naming.antt`).
 #![tactic(auto)]
 
 mod bodies;

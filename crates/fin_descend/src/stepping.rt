@@ -4,6 +4,7 @@ ghost use Rattle.fin_nest.specs.Styles.{style_of, is_point_style};
 ghost use Rattle.fin_style_point.specs.Parts.{all_looplets};
 ghost use Rattle.fin_descend.specs.Parts.{as_stepping, as_point, weight_in, parts_of, frame_of};
 ghost use Rattle.fin_descend.specs.Promises.{Divides, AllLighter, StaySeparate};
+ghost use Rattle.fin_descend.specs.Naming.{step_end};
 
 use crate::weights::is_at_points;
 use fin_ast::Stmt;
@@ -30,6 +31,7 @@ pub fn step(alloc: Global, nest: &Nest) -> Result<Split, AllocError>
     ensures separate { IfOk result (λ p. StaySeparate p nest.now) }
     ensures parts { IfOk result (λ p. p.nests ≡ parts_of nest.now) }
     ensures frame { IfOk result (λ p. p.frame ≡ frame_of nest.now) }
+    ensures room { IfOk result (λ p. p.room ≡ step_end nest.now) }
 {
     let copy = copy(alloc, nest)?;
     if is_at_points(nest) {
@@ -46,6 +48,7 @@ fn step_at_points(alloc: Global, nest: Nest) -> Result<Split, AllocError>
     ensures separate { IfOk result (λ p. StaySeparate p nest) }
     ensures parts { IfOk result (λ p. p.nests ≡ parts_of nest) }
     ensures frame { IfOk result (λ p. p.frame ≡ frame_of nest) }
+    ensures room { IfOk result (λ p. p.room ≡ step_end nest) }
 {
     let next = nest.next;
     let parts = fin_style_point::step(alloc, nest)?;
@@ -70,6 +73,7 @@ fn step_along(alloc: Global, nest: Nest) -> Result<Split, AllocError>
     ensures separate { IfOk result (λ p. StaySeparate p nest) }
     ensures parts { IfOk result (λ p. p.nests ≡ parts_of nest) }
     ensures frame { IfOk result (λ p. p.frame ≡ frame_of nest) }
+    ensures room { IfOk result (λ p. p.room ≡ step_end nest) }
 {
     let next = nest.next;
     let parts = fin_style_step::step(alloc, as_stepping(nest))?;

@@ -30,7 +30,7 @@ pub flatten_open-returns : goal.flatten_open-returns
 flatten_open-returns g t c =
     open_flattened (g.A.Asks.stands c.args.asks.now) (g.A.Asks.comes c.args.asks.now) (g.A.Asks.fixed c.args.asks.now) c.args.nest.now c.in_ok-split.split c.weighs_nothing.result
     c.flatten_split.result c.weighs_nothing.ensures.weightless c.if-weighs_nothing.false c.requires.may_step c.in_ok-split.ensures.divides
-    c.in_ok-split.ensures.separate c.in_ok-split.ensures.frame c.in_ok-split.ensures.parts c.flatten_split.ensures
+    c.in_ok-split.ensures.separate c.in_ok-split.ensures.frame c.in_ok-split.ensures.parts c.in_ok-split.ensures.room c.flatten_split.ensures
 
 pub flatten_parts-returns : goal.flatten_parts-returns
 flatten_parts-returns g t c =
