@@ -30,9 +30,11 @@ NamedIn layout e = is_named_in layout e ≡ true
 abbrev pub LeafNamed : Layout → Leaf → Type 0
 LeafNamed layout (Fill f) = Unit {0}
 LeafNamed layout (Value e) = NamedIn layout e
-LeafNamed layout (Sub tensor level place there) = HasTensor layout tensor × (NamedIn layout place × NamedIn layout there)
+LeafNamed layout (Sub tensor level place there) =
+    HasTensor layout tensor × (NamedIn layout place × NamedIn layout there)
 
--- Each expression in the looplet, however deep, and the locals that it owns. A walker owns its cursor and the local above.
+-- Each expression in the looplet, however deep, and the locals that it owns: a walker's cursor and the local above, and a
+-- lookup's coordinate.
 abbrev mutual
   pub LoopletNamed : Layout → Looplet → Type 0
   LoopletNamed layout (Run leaf) = LeafNamed layout leaf
@@ -42,11 +44,13 @@ abbrev mutual
   LoopletNamed layout (Stepper' p walker) = WalkerNamed layout walker
   LoopletNamed layout (Jumper' p walker) = WalkerNamed layout walker
   LoopletNamed layout (Switch' n cases) = CasesNamed layout cases
-  LoopletNamed layout (Shift' by p (more_of-Looplet child end_of-Looplet)) = NamedIn layout by × LoopletNamed layout child
+  LoopletNamed layout (Shift' by p (more_of-Looplet child end_of-Looplet)) =
+      NamedIn layout by × LoopletNamed layout child
 
   pub PhasesNamed : {n : _} → Layout → Row_of-Phase n → Type 0
   PhasesNamed layout end_of-Phase = Unit {0}
-  PhasesNamed layout (more_of-Phase stop child rest) = NamedIn layout stop × (LoopletNamed layout child × PhasesNamed layout rest)
+  PhasesNamed layout (more_of-Phase stop child rest) =
+      NamedIn layout stop × (LoopletNamed layout child × PhasesNamed layout rest)
 
   pub WalkerNamed : {n : _} → Layout → Row_of-Walker n → Type 0
   WalkerNamed layout end_of-Walker = Unit {0}
@@ -55,7 +59,8 @@ abbrev mutual
 
   pub CasesNamed : {n : _} → Layout → Row_of-Case n → Type 0
   CasesNamed layout end_of-Case = Unit {0}
-  CasesNamed layout (more_of-Case test child rest) = NamedIn layout test × (LoopletNamed layout child × CasesNamed layout rest)
+  CasesNamed layout (more_of-Case test child rest) =
+      NamedIn layout test × (LoopletNamed layout child × CasesNamed layout rest)
 
 abbrev pub EachNamed : Layout → List Looplet → Type 0
 EachNamed layout [] = Unit {0}

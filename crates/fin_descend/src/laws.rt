@@ -1,5 +1,5 @@
-//! What is proved of nests without jumpers, of the leaves in nests, of free locals, and of what the code of a nest names
-//! and leaves as it is.
+//! What is proved of nests without jumpers, of the leaves in nests, of free locals, and of what the code of a nest
+//! names and leaves as it is.
 ghost use Rattle.fin_looplet.specs.declared.looplet.Leaf.{Leaf};
 ghost use Rattle.fin_descend.specs.Jumpless.{PartsAreOfLoop, JumplessDontJump};
 ghost use Rattle.fin_descend.specs.Leaves.{
