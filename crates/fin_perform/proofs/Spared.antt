@@ -129,18 +129,21 @@ pub second_not : (a b : Bool) → (a || b) ≡ false → b ≡ false
 second_not false b e = e
 second_not true b e = cc
 
-some_append : (t : ℕ) (cs ds : List Code) → some_of (map declares cs) t ≡ false → some_of (map declares ds) t ≡ false → some_of (map declares (cs ++ ds)) t ≡ false
+pub some_append : (t : ℕ) (cs ds : List Code) → some_of (map declares cs) t ≡ false → some_of (map declares ds) t ≡ false → some_of (map declares (cs ++ ds)) t ≡ false
 some_append t [] ds e f = f
 some_append t (c ∷ cs) ds e f = neither (declares c t) (some_of (map declares (cs ++ ds)) t) (first_not (declares c t) _ e) (some_append t cs ds (second_not (declares c t) _ e) f)
 
-steps_declare_none : (t : ℕ) (steps : List Step) → some_of (map declares (map assign_of steps)) t ≡ false
+pub steps_declare_none : (t : ℕ) (steps : List Step) → some_of (map declares (map assign_of steps)) t ≡ false
 steps_declare_none t [] = refl
 steps_declare_none t (x ∷ steps) = ap (λ (own : Tensors). own t || some_of (map declares (map assign_of steps)) t) (of_assign Tensors declares_step x.local x.value) ∙ steps_declare_none t steps
 
+pub put_declares_none : (h : Heads) (t' : ℕ) (at : List Index) (by : Reduce) (value : IExpr) (t : ℕ) → declares (put_code h t' at by value) t ≡ false
+put_declares_none h t' at by value t =
+    let xs = map index_code at in
+    ap (λ (own : Tensors). own t) (of_when Tensors declares_step (in_box (shape_of h t') xs) (Update t' xs by value))
+    ∙ ap (λ (own : Tensors). own t) (of_update Tensors declares_step t' xs by value)
+
 pub unpaid_declares_none : (h : Heads) (t' : ℕ) (at : List Index) (by : Reduce) (v : Lowered) (t : ℕ) → some_of (map declares (unpaid_update h t' at by v)) t ≡ false
 unpaid_declares_none h t' at by v t =
-    let xs = map index_code at in
-    let put : declares (put_code h t' at by v.value) t ≡ false =
-    ap (λ (own : Tensors). own t) (of_when Tensors declares_step (in_box (shape_of h t') xs) (Update t' xs by v.value))
-    ∙ ap (λ (own : Tensors). own t) (of_update Tensors declares_step t' xs by v.value) in
-    some_append t (map assign_of v.steps) (put_code h t' at by v.value ∷ []) (steps_declare_none t v.steps) (neither (declares (put_code h t' at by v.value) t) false put refl)
+    some_append t (map assign_of v.steps) (put_code h t' at by v.value ∷ []) (steps_declare_none t v.steps)
+    (neither (declares (put_code h t' at by v.value) t) false (put_declares_none h t' at by v.value t) refl)

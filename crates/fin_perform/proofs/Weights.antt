@@ -1,12 +1,12 @@
 -- How much statements weigh: one with a body more than all in it.
-use Rattle.std.proofs.Common.{◌≡◌, ℕ, zero, suc, ◌+◌, ◌*◌, ◌<◌, ◌≤◌, List, [], ◌∷◌, map, length, get_or, ap, ◌∙◌, arith}
+use Rattle.std.proofs.Common.{◌≡◌, ℕ, Bool, Option, zero, suc, ◌+◌, ◌*◌, ◌<◌, ◌≤◌, List, [], ◌∷◌, map, length, get_or, ap, ◌∙◌, arith}
 use Rattle.std.specs.List.{sum}
 use Rattle.std.proofs.lemmas.List.Sums.{sum_by-cons}
 use Rattle.fin_ast.specs.declared.tree.Expr.{Expr}
 use Rattle.fin_ast.specs.declared.tree.Stmt.{Stmt, fold-Stmt}
 use Rattle.fin_ast.specs.declared.tree.Stmt.TheOpen.{Stmt-F}
 use Rattle.fin_ast.specs.declared.tree.Stmt.TheVariants as s
-use Rattle.fin_ast.proofs.Nodes.{of_block, of_cond, of_bind}
+use Rattle.fin_ast.proofs.Nodes.{of_block, of_loop, of_cond, of_bind}
 
 abbrev weight_step : Stmt-F ℕ → ℕ
 weight_step (Stmt-F.Block body line last) = suc (sum body)
@@ -38,6 +38,9 @@ module _ (x : Stmt) (body body' : List Stmt) (line last : ℕ) (same : body' ≡
 
   pub block_weighs : x ≡ s.Block body line last → 2 * weights body' + 1 < 2 * weight x
   block_weighs is = lighter (ap weight is ∙ of_block ℕ weight_step body line last)
+
+  pub loop_weighs : (var : ℕ) (range : Option (ℕ × ℕ)) (par : Bool) → x ≡ s.Loop var range par body line last → 2 * weights body' + 1 < 2 * weight x
+  loop_weighs var range par is = lighter (ap weight is ∙ of_loop ℕ weight_step var range par body line last)
 
   pub cond_weighs : (test : Expr) → x ≡ s.Cond test body line last → 2 * weights body' + 1 < 2 * weight x
   cond_weighs test is = lighter (ap weight is ∙ of_cond ℕ weight_step test body line last)

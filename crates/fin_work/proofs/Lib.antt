@@ -6,12 +6,12 @@ mod Carrying
 mod Running
 mod Asking
 mod Pieced
-mod Changing
+pub mod Changing
 mod Standing
 mod Numbering
 mod Looking
 mod Known
-mod Written
+pub mod Written
 mod Coordinates
 mod Lived
 mod Holding
