@@ -1,11 +1,2 @@
-pub mod Beside
-pub mod Bodies
-pub mod Capped
-pub mod Control
-pub mod Extents
-pub mod Listing
-pub mod Naming
-pub mod Placed
-pub mod Saving
-pub mod Turns
+pub mod Plans
 pub mod Whole

@@ -1,90 +1,95 @@
--- An accepted program, lowered.
-use Rattle.std.proofs.Common.{◌≡◌, ℕ, ◌+◌, ◌≤◌, ◌⊎◌, inl, inr, true, false, List, length, refl, sym, ap, subst, pos, arith}
-use Rattle.std.proofs.lemmas.List.{length-map}
+-- A plan of an accepted program does what dense evaluation does: its code follows the run by pieces, which follows the run
+-- by stages.
+use Rattle.std.proofs.Common.{◌≡◌, ℕ, ◌⊎◌, inl, inr, true, [], List, Some, sym, ap, ◌∙◌, subst, arith}
+use Rattle.std.specs.Prelude.{slice_get}
+use Rattle.fin_tensor.specs.declared.format.Format.{Format}
 use Rattle.fin_tensor.specs.declared.storage.Storage.{Storage}
+use Rattle.fin_tensor.specs.TensorFunction.{TensorFunction}
+use Rattle.fin_tensor.specs.Canon.{undecorated}
+use Rattle.fin_ast.specs.declared.header.Header.{Header}
 use Rattle.fin_ast.specs.declared.checked.Checked.{Checked}
-use Rattle.fin_ast.specs.declared.checked.Dims.{Dims}
 use Rattle.fin_ast.specs.Accepted.{IsAccepted, FitProgram}
-use Rattle.fin_ast.specs.Bindings.{bindings_of_all}
-use Rattle.fin_ast.specs.Infer.{places_in}
-use Rattle.fin_ast.specs.Scope.{outermost}
-use Rattle.fin_ast.specs.Shaped.{FitHeaders}
-use Rattle.fin_ast.specs.Sizes.{ranges_of}
-use Rattle.fin_ast.specs.Dense.{unbound}
-use Rattle.fin_ast.proofs.Induction.{all_by_kind}
-use Rattle.fin_ir.specs.Machine.{held}
-use Rattle.fin_ir.specs.Meaning.{meaning_all}
-use Rattle.fin_ir.specs.Named.{is_named}
+use Rattle.fin_ast.specs.Kinds.{is_output}
+use Rattle.fin_ast.specs.Dense.{setting_of, function_of}
+use Rattle.fin_ir.specs.declared.code.Code.{Code}
+use Rattle.fin_ir.specs.declared.layout.Layout.{Layout}
+use Rattle.fin_ir.specs.declared.layout.Plan.{Plan}
+use Rattle.fin_ir.specs.Machine.{Machine, held}
+use Rattle.fin_ir.specs.Meaning.{meaning, meaning_all}
+use Rattle.fin_ir.specs.Regular.{InputsFit}
 use Rattle.fin_ir.proofs.Codes.{meaning_seq}
-use Rattle.fin_stage.specs.Staged.{before_all, staged}
-use Rattle.fin_stage.specs.Sound.{IsSound}
-use Rattle.fin_stage.proofs.Ranges.{ranges_count}
-use Rattle.fin_stage.proofs.Soundness.{accepted_is_sound}
-use Rattle.fin_lower.specs.Lowering.{code_of_all}
-use Rattle.fin_perform.specs.Layouts.{variables_in}
-use Rattle.fin_lower.specs.Plans.{room_of, sides_in, code_of, layout_of}
-use Rattle.fin_lower.specs.Lowered.{begun, ended, IsWhole, IsCut, IsLowered, AcceptedIsLowered, start_of}
-use Rattle.fin_nest.specs.Related.{Stand, Related}
-use Rattle.fin_lower.proofs.Placed.{Placed, BodyFits, counted_below}
-use Rattle.fin_lower.proofs.Bodies.{Goes, all_go}
-use Rattle.fin_perform.proofs.Beginning.{begins, inputs_fit}
-use Rattle.fin_lower.proofs.Naming.{Named, named_seq, all_are_named}
-use Rattle.fin_lower.proofs.Beside.{goings, namings}
+use Rattle.fin_stage.specs.Stages.{Stage, Frozen, stage_at}
+use Rattle.fin_stage.specs.Staged.{Run, staged}
+use Rattle.fin_stage.specs.Trailing.{StageTrails, RunTrails}
+use Rattle.fin_stage.specs.Sound.{AcceptedIsSound, IsSound}
+use Rattle.fin_stage.specs.Wordy.{IsWordy}
+use Rattle.fin_simp.specs.Work.{pieced}
+use Rattle.fin_work.specs.Sound.{PiecedIsSound, PiecesAreSound}
+use Rattle.fin_nest.specs.Related.{Start, Stand, Related}
+use Rattle.fin_nest.specs.Senses.{Behind}
+use Rattle.fin_perform.specs.Begun.{BegunMachinesStand}
+use Rattle.fin_perform.specs.Layouts.{layout_with, start_with}
+use Rattle.fin_perform.specs.Programs.{ProgramsStand}
+use Rattle.fin_lower.specs.Plans.{IsPlan}
+use Rattle.fin_lower.specs.Lowered.{begun, ended, IsWhole, IsCut, IsLowered, AcceptedIsLowered}
 
-module _ (c : Checked) (inputs : List Storage) (accepted : IsAccepted c) (given_fit : FitProgram c inputs) where
-  fits : FitHeaders c.program.headers c.dims
-  fits = c.fits
+-- what trails a frozen stage is that stage
+frozen_stays : (x y : Stage) (format : Format) (f : TensorFunction) → StageTrails x y → x ≡ Frozen format f → y ≡ Frozen format f
+frozen_stays x y format f trails e = subst (λ (z : Stage). StageTrails z y) e trails
 
-  enough : 0 + length (bindings_of_all c.program.body) ≤ variables_in c
-  enough =
-      let e : c.dims.ranges ≡ ranges_of accepted.extents.extent (places_in c.program) = ap (λ (d : Dims). d.ranges) accepted.extents.numbers in
-      omega (arith, ap length e, ranges_count accepted.extents.extent c.program.body)
+regular_at : (s : Start) (r : Run) (m : Machine) → Related s [] r m → m.regular ≡ true
+regular_at s r m (inl l) = l.regular
+regular_at s r m (inr o) = o.regular
 
-  placed : Placed c (outermost c.program.headers) (variables_in c)
-  placed = record { headers = refl; within = λ var e. absurd (let h : false ≡ true = e in cc); after = omega arith }
+module _ (starts : BegunMachinesStand) (programs : ProgramsStand) (stages : AcceptedIsSound) (pieces : PiecedIsSound) where
+  module _ (c : Checked) (inputs : List Storage) (p : Plan) (is : IsPlan c p) (accepted : IsAccepted c) (fit : FitProgram c inputs) (wordy : IsWordy (setting_of c inputs)) where
+    abbrev start : Start
+    start = start_with c p.layout.locals inputs
 
-  body_fits : BodyFits c c.program.body (outermost c.program.headers) (variables_in c)
-  body_fits = record {
-    named = c.program.named;
-    bound = counted_below (variables_in c) 0 (bindings_of_all c.program.body) c.program.numbered enough;
-    room = omega arith;
-  }
+    by_stages : IsSound c inputs
+    by_stages = stages c inputs accepted fit
 
-  code_named : is_named (layout_of c) (code_of c) ≡ true
-  code_named = named_seq (layout_of c) (code_of_all (sides_in c) (variables_in c) c.program.body)
-      (all_are_named c c.program.body (all_by_kind (Named c) (namings c) c.program.body) (outermost c.program.headers) (variables_in c) placed body_fits)
+    by_pieces : PiecesAreSound c inputs
+    by_pieces = pieces c inputs accepted fit wordy
 
-  long : length (unbound c.dims) ≡ variables_in c
-  long = length-map c.dims.ranges (λ (r : ℕ × ℕ). pos 0)
+    fits : InputsFit p.layout inputs
+    fits = subst (λ (l : Layout). InputsFit l inputs) (sym is.layout) (starts c p.layout.locals inputs c.fits fit).fit
 
-  sound : IsSound c inputs
-  sound = accepted_is_sound c inputs accepted given_fit
+    -- the plan's code is its codes, one after another
+    in_turn : ended c inputs p ≡ meaning_all (layout_with c p.layout.locals) is.codes (begun c inputs p)
+    in_turn =
+        ap (λ (x : Code). meaning p.layout x (begun c inputs p)) is.code
+        ∙ meaning_seq p.layout is.codes (begun c inputs p)
+        ∙ ap (λ (l : Layout). meaning_all l is.codes (begun c inputs p)) is.layout
 
-  related : Related (start_of c inputs) (unbound c.dims) (staged c inputs) (ended c inputs)
-  related =
-      subst (Related (start_of c inputs) (unbound c.dims) (staged c inputs)) (sym (meaning_seq (layout_of c) (code_of_all (sides_in c) (variables_in c) c.program.body) (begun c inputs)))
-      (subst (λ (n : ℕ). Related (start_of c inputs) (unbound c.dims) (staged c inputs) (meaning_all (layout_of c) (code_of_all (sides_in c) n c.program.body) (begun c inputs))) long
-      (all_go c inputs c.program.body (all_by_kind (Goes c inputs) (goings c inputs fits given_fit) c.program.body) (outermost c.program.headers) (unbound c.dims) (unbound c.dims) (before_all c.program.headers) (begun c inputs)
-      (subst (Placed c (outermost c.program.headers)) (sym long) placed) (subst (BodyFits c c.program.body (outermost c.program.headers)) (sym long) body_fits) long (λ k lt. refl) (begins c (room_of c) inputs fits given_fit) sound.regular))
+    behind : Behind start (pieced c inputs) (ended c inputs p)
+    behind =
+        subst (Behind start (pieced c inputs)) (sym in_turn)
+        (programs c p.layout.locals is.codes p.layout.locals inputs (is.means accepted) accepted fit is.room (omega arith) by_pieces.regular)
 
-  regular_at : Related (start_of c inputs) (unbound c.dims) (staged c inputs) (ended c inputs) → (ended c inputs).regular ≡ true
-  regular_at (inl l) = l.regular
-  regular_at (inr o) = o.regular
+    module _ (run : Run) (trails : RunTrails (pieced c inputs) run) where
+      -- an output is frozen with its function in all three runs
+      frozen : (tensor : ℕ) (h : Header) → slice_get c.program.headers tensor ≡ Some h → is_output h.kind ≡ true
+          → stage_at run.stages tensor ≡ Frozen (undecorated h.format) (function_of c inputs tensor)
+      frozen tensor h e o =
+          frozen_stays (stage_at (pieced c inputs).stages tensor) (stage_at run.stages tensor) (undecorated h.format) (function_of c inputs tensor) (trails.stages tensor)
+          (frozen_stays (stage_at (staged c inputs).stages tensor) (stage_at (pieced c inputs).stages tensor) (undecorated h.format) (function_of c inputs tensor) (by_pieces.follows.stages tensor)
+          (by_stages.outputs tensor h e o))
 
-  ends_at : Related (start_of c inputs) (unbound c.dims) (staged c inputs) (ended c inputs) → IsWhole c inputs (ended c inputs) ⊎ IsCut c inputs (ended c inputs)
-  ends_at (inl l) = inl record {
-    whole = l.cut;
-    charges = l.charges;
-    outputs = λ tensor h e o. (subst (λ x. Stand x (held (ended c inputs).tensors tensor)) (sound.outputs tensor h e o) (l.each tensor)).1;
-  }
-  ends_at (inr o) = inr record { cut = o.cut; over = o.over; most = o.most }
+      ends_at : Related start [] run (ended c inputs p) → IsWhole c inputs (ended c inputs p) ⊎ IsCut c inputs (ended c inputs p)
+      ends_at (inl l) = inl record {
+        whole = l.cut;
+        charges = l.charges ∙ trails.work;
+        outputs = λ tensor h e o. (subst (λ x. Stand x (held (ended c inputs p).tensors tensor)) (frozen tensor h e o) (l.each tensor)).1;
+      }
+      ends_at (inr o) = inr record { cut = o.cut; over = o.over; most = omega (arith, o.most, trails.work) }
 
-  pub lowered : IsLowered c inputs
-  lowered = record {
-    fit = inputs_fit c (room_of c) inputs fits given_fit;
-    regular = record { named = code_named; runs = regular_at related };
-    ends = ends_at related;
-  }
+    lowered : IsLowered c inputs p
+    lowered = record {
+      fit = fits;
+      regular = record { named = is.named accepted; runs = regular_at start behind.run (ended c inputs p) behind.related };
+      ends = ends_at behind.run behind.trails behind.related;
+    }
 
-pub accepted_is_lowered : AcceptedIsLowered
-accepted_is_lowered c inputs accepted given_fit = lowered c inputs accepted given_fit
+  pub accepted_is_lowered : AcceptedIsLowered
+  accepted_is_lowered c inputs p is accepted fit wordy = lowered c inputs p is accepted fit wordy

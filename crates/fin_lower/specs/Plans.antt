@@ -1,26 +1,21 @@
--- The plan of a program: its code, its tensors, and as many locals as the code needs.
-use Rattle.std.specs.Prelude.{ℕ}
+-- Which plans are plans of a program, by what their code means.
+use Rattle.std.specs.Prelude.{◌≡◌, ◌≤◌, true, List, None}
 use Rattle.fin_ast.specs.declared.checked.Checked.{Checked}
+use Rattle.fin_ast.specs.Accepted.{IsAccepted}
 use Rattle.fin_ir.specs.declared.code.Code.{Code}
 use Rattle.fin_ir.specs.declared.code.Code.TheVariants.{Seq}
-use Rattle.fin_ir.specs.declared.layout.Layout.{Layout}
 use Rattle.fin_ir.specs.declared.layout.Plan.{Plan}
-use Rattle.fin_perform.specs.Layouts.{heads_in, variables_in, layout_with}
-use Rattle.fin_lower.specs.Lowering.{Sides, sides_over, code_of_all}
-use Rattle.fin_lower.specs.Room.{reach_of_all}
+use Rattle.fin_ir.specs.Named.{is_named}
+use Rattle.fin_simp.specs.Numbered.{outset}
+use Rattle.fin_perform.specs.Layouts.{variables_in, layout_with}
+use Rattle.fin_perform.specs.Meanings.{Means, turns_deed}
 
-abbrev pub sides_in : Checked → Sides
-sides_in c = sides_over c.program.headers c.dims.shapes c.dims.ranges
-
-abbrev pub code_of : Checked → Code
-code_of c = Seq (code_of_all (sides_in c) (variables_in c) c.program.body)
-
--- how many locals its code needs
-abbrev pub room_of : Checked → ℕ
-room_of c = reach_of_all (heads_in c) (variables_in c) c.program.body
-
-abbrev pub layout_of : Checked → Layout
-layout_of c = layout_with c (room_of c)
-
-abbrev pub plan_of : Checked → Plan
-plan_of c = record { code = code_of c; layout = layout_of c }
+-- Its layout is that of the program's tensors, with a local for each variable and more; and where the program meets the
+-- checks, its code names what the layout has, and means the program's statements.
+pub record IsPlan (c : Checked) (p : Plan) : Type 0 where
+  pub codes : List Code
+  pub code : p.code ≡ Seq codes
+  pub layout : p.layout ≡ layout_with c p.layout.locals
+  pub room : variables_in c ≤ p.layout.locals
+  pub named : IsAccepted c → is_named p.layout p.code ≡ true
+  pub means : IsAccepted c → Means c (variables_in c) p.layout.locals codes (turns_deed c.program.body outset None)
