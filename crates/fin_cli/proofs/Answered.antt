@@ -8,7 +8,7 @@ use Rattle.fin_words.specs.declared.mode.Asked.{Asked}
 use Rattle.fin_words.specs.declared.mode.Mode.{Mode}
 use Rattle.fin_words.specs.declared.mode.Mode.TheVariants.{Run, Check, Plain, Gen}
 use Rattle.fin_dense.specs.Plain.{IsOver, IsPlain}
-use Rattle.fin_stage.specs.Staged.{coordinate_work}
+use Rattle.fin_simp.specs.Work.{work_of}
 use Rattle.fin_engine.specs.Run.{StoresAll}
 use Rattle.fin_engine.specs.Verdict.{Accepts, Breaks, IsJob}
 use Rattle.fin_engine.specs.declared.job.Job.{Job}
@@ -38,21 +38,21 @@ long_due text Next due many (IsDueRead.breaks rule line few h) = absurd (omega a
 long_due text Next due many (IsDueRead.passes d few a next) = absurd (omega arith)
 
 -- a run within the budget
-within_due : (budget : ℕ) (text : List ℕ) (due : Due) (job : Job) → IsJob text job → coordinate_work job.checked job.inputs ≤ budget → IsDueRun budget text due
+within_due : (budget : ℕ) (text : List ℕ) (due : Due) (job : Job) → IsJob text job → work_of job.checked job.inputs ≤ budget → IsDueRun budget text due
     → (outputs : Outputs) × StoresAll job.checked job.inputs outputs × (due ≡ due_outputs job outputs)
 within_due budget text due job is within (IsDueRun.over k h over) =
-    let more : budget < coordinate_work job.checked job.inputs = subst (λ (x : Job). budget < coordinate_work x.checked x.inputs) (one_job text k job h is) over in
+    let more : budget < work_of job.checked job.inputs = subst (λ (x : Job). budget < work_of x.checked x.inputs) (one_job text k job h is) over in
     absurd (omega arith)
 within_due budget text due job is within (IsDueRun.whole k outputs h run) =
     let same = one_job text k job h is in
     (outputs, subst (λ (x : Job). StoresAll x.checked x.inputs outputs) same run.stored, ap (λ (x : Job). due_outputs x outputs) same)
 
 -- and over it
-over_due : (budget : ℕ) (text : List ℕ) (due : Due) (job : Job) → IsJob text job → budget < coordinate_work job.checked job.inputs → IsDueRun budget text due → due ≡ refused W1 0
+over_due : (budget : ℕ) (text : List ℕ) (due : Due) (job : Job) → IsJob text job → budget < work_of job.checked job.inputs → IsDueRun budget text due → due ≡ refused W1 0
 over_due budget text due job is over (IsDueRun.over k h more) = refl
 over_due budget text due job is over (IsDueRun.whole k outputs h run) =
     let le = run.within in
-    let within : coordinate_work job.checked job.inputs ≤ budget = subst (λ (x : Job). coordinate_work x.checked x.inputs ≤ budget) (one_job text k job h is) le in
+    let within : work_of job.checked job.inputs ≤ budget = subst (λ (x : Job). work_of x.checked x.inputs ≤ budget) (one_job text k job h is) le in
     absurd (omega arith)
 
 plain_due : (text : List ℕ) (due : Due) (job : Job) → IsJob text job → IsDuePlain text due

@@ -4,7 +4,7 @@ use Rattle.std.specs.declared.option.Option.{Option}
 use Rattle.fin_dense.specs.Plain.{IsOver, IsPlain}
 use Rattle.fin_ast.specs.Dense.{function_of}
 use Rattle.fin_dense.specs.Plain.{outputs_from}
-use Rattle.fin_stage.specs.Staged.{coordinate_work}
+use Rattle.fin_simp.specs.Work.{work_of}
 use Rattle.fin_dense.proofs.OnePlain.{one_plain, one_stored, plain_or_over}
 use Rattle.fin_engine.specs.declared.job.Job.{Job}
 use Rattle.fin_engine.proofs.Verdicts.{accepted_or_not, one_breach, one_job}
@@ -38,7 +38,7 @@ one_run budget j k o p e h l =
     let same = one_stored (function_of k.checked k.inputs) (outputs_from 0 k.checked.program.headers) o.tensors p.tensors mine.stored l.stored in
     ap₂ (λ (x : Job) (tensors : List (ℕ × Storage)). done (outputs_text x.checked.program.headers tensors)) e same
 
-within_or_over : (budget : ℕ) (j k : Job) (o : Outputs) → j ≡ k → IsRun j.checked j.inputs budget o → budget < coordinate_work k.checked k.inputs → ⊥
+within_or_over : (budget : ℕ) (j k : Job) (o : Outputs) → j ≡ k → IsRun j.checked j.inputs budget o → budget < work_of k.checked k.inputs → ⊥
 within_or_over budget j k o e h over = let mine : IsRun k.checked k.inputs budget o = subst (λ (x : Job). IsRun x.checked x.inputs budget o) e h in let le = mine.within in omega (arith, le, over)
 
 one_run_due : (budget : ℕ) (text : List ℕ) (d e : Due) → IsDueRun budget text d → IsDueRun budget text e → d ≡ e

@@ -12,7 +12,7 @@ use Rattle.fin_ast.specs.declared.header.Header.{Header}
 use Rattle.fin_ast.specs.declared.checked.Checked.{Checked}
 use Rattle.fin_ast.specs.Dense.{function_of}
 use Rattle.fin_dense.specs.Plain.{AreStored, IsOver, IsPlain, outputs_from}
-use Rattle.fin_stage.specs.Staged.{coordinate_work}
+use Rattle.fin_simp.specs.Work.{work_of}
 use Rattle.fin_engine.specs.Verdict.{Accepts, Breaks, IsJob}
 use Rattle.fin_engine.specs.declared.job.Job.{Job}
 use Rattle.fin_tensor.specs.declared.outputs.Outputs.{Outputs}
@@ -114,13 +114,13 @@ due_outputs job outputs = done (outputs_text job.checked.program.headers outputs
 
 -- the work of a program is within the budget, and these are the canonical storages of what dense evaluation gives
 pub record IsRun (c : Checked) (inputs : List Storage) (budget : ℕ) (outputs : Outputs) : Type 0 where
-  pub within : coordinate_work c inputs ≤ budget
+  pub within : work_of c inputs ≤ budget
   pub stored : AreStored (function_of c inputs) (outputs_from 0 c.program.headers) outputs.tensors
 
 -- what is due for the run of a job that breaks none of the rules before: W1 where its work is over the budget, else the text
 -- of each output
 pub data IsDueRun (budget : ℕ) (text : List ℕ) : Due → Type 0 where
-  over : (job : Job) → IsJob text job → budget < coordinate_work job.checked job.inputs → IsDueRun budget text (refused W1 0)
+  over : (job : Job) → IsJob text job → budget < work_of job.checked job.inputs → IsDueRun budget text (refused W1 0)
   whole : (job : Job) (outputs : Outputs) → IsJob text job → IsRun job.checked job.inputs budget outputs → IsDueRun budget text (due_outputs job outputs)
 
 -- the same for dense evaluation: B2 where it is over its limits

@@ -9,7 +9,7 @@ use Rattle.fin_words.specs.declared.mode.Asked.{Asked}
 use Rattle.fin_words.specs.declared.mode.Mode.{Mode}
 use Rattle.fin_words.specs.declared.mode.Mode.TheVariants.{Run, Check, Plain, Gen}
 use Rattle.fin_dense.specs.Plain.{IsOver, IsPlain}
-use Rattle.fin_stage.specs.Staged.{coordinate_work}
+use Rattle.fin_simp.specs.Work.{work_of}
 use Rattle.fin_engine.specs.Run.{StoresAll}
 use Rattle.fin_engine.specs.Verdict.{Accepts, Breaks, IsJob}
 use Rattle.fin_engine.specs.declared.job.Job.{Job}
@@ -56,9 +56,9 @@ Refuses rule line out err status = (status ≡ 1) × Took out [] × Took err (re
 -- dense evaluation gives; over the budget it is refused by W1. `plain` gives the same, or refuses by B2 what is over its limits;
 -- `check` says that the text is accepted. A text that breaks a rule is refused by that rule on its line, and one that is too long by J1.
 pub record Answers (a : Asked) (text : List ℕ) (out err : Across) (status : ℕ) : Type 0 where
-  pub runs : a.mode ≡ Run → length text ≤ most → (job : Job) → IsJob text job → coordinate_work job.checked job.inputs ≤ a.budget
+  pub runs : a.mode ≡ Run → length text ≤ most → (job : Job) → IsJob text job → work_of job.checked job.inputs ≤ a.budget
       → GivesOutputs (StoresAll job.checked job.inputs) job out err status
-  pub spends : a.mode ≡ Run → length text ≤ most → (job : Job) → IsJob text job → a.budget < coordinate_work job.checked job.inputs
+  pub spends : a.mode ≡ Run → length text ≤ most → (job : Job) → IsJob text job → a.budget < work_of job.checked job.inputs
       → Refuses W1 0 out err status
   pub evaluates : a.mode ≡ Plain → length text ≤ most → (job : Job) → IsJob text job
       → GivesOutputs (IsPlain job.checked job.inputs) job out err status ⊎ (IsOver job.checked job.inputs × Refuses B2 0 out err status)

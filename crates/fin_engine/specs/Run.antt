@@ -14,7 +14,7 @@ use Rattle.fin_dense.specs.Plain.{AreStored, outputs_from}
 use Rattle.fin_ir.specs.declared.layout.Plan.{Plan}
 use Rattle.fin_ir.specs.Machine.{Machine}
 use Rattle.fin_ir.specs.Meaning.{meaning}
-use Rattle.fin_stage.specs.Staged.{coordinate_work}
+use Rattle.fin_simp.specs.Work.{work_of}
 use Rattle.fin_run.specs.declared.state.Held.{Held}
 use Rattle.fin_run.specs.declared.state.State.{State}
 use Rattle.fin_run.specs.States.{machine}
@@ -25,15 +25,15 @@ use Rattle.fin_engine.specs.declared.run.Done.{Done}
 abbrev pub StoresAll : Checked → List Storage → Outputs → Type 0
 StoresAll c inputs outputs = AreStored (function_of c inputs) (outputs_from 0 c.program.headers) outputs.tensors
 
--- the outputs are those of dense evaluation, and the work is the program's, coordinate by coordinate, and within the budget
+-- the outputs are those of dense evaluation, and the work is the program's, by the pieces of its loops, and within the budget
 pub record IsDone (c : Checked) (inputs : List Storage) (budget : ℕ) (done : Done) : Type 0 where
   pub stored : StoresAll c inputs done.outputs
-  pub work : done.work ≡ coordinate_work c inputs
-  pub within : coordinate_work c inputs ≤ budget
+  pub work : done.work ≡ work_of c inputs
+  pub within : work_of c inputs ≤ budget
 
 -- W1, without a line: the work is over the budget
 abbrev pub IsSpent : Checked → List Storage → ℕ → Fail → Type 0
-IsSpent c inputs budget (Refused r) = (r ≡ record { rule = W1; line = 0 }) × (budget < coordinate_work c inputs)
+IsSpent c inputs budget (Refused r) = (r ≡ record { rule = W1; line = 0 }) × (budget < work_of c inputs)
 IsSpent c inputs budget (Memory e) = Unit {0}
 
 -- what a run answers; want of memory is free

@@ -9,7 +9,7 @@
 //! checks, and whose inputs fit that program.
 //!
 //! `run_job_one` runs such a job by its loop code. Its outputs are the canonical storages of what dense evaluation
-//! gives, and its work is the program's, coordinate by coordinate; where that exceeds the budget it refuses the job
+//! gives, and its work is the program's, by the pieces of its loops; where that exceeds the budget it refuses the job
 //! (`W1`).
 #![tactic(auto)]
 

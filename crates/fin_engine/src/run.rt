@@ -2,11 +2,13 @@
 ghost use Rattle.std.specs.Prelude.{◌≡◌, ◌+◌, ◌<◌, ◌≤◌, ◌^◌, ℕ, IfOk, IfErr, IsErrOf, OnOk, Some, slice_get};
 ghost use Rattle.fin_tensor.specs.declared.storage.Storage.{Storage};
 ghost use Rattle.fin_ast.specs.Accepted.{FitProgram, IsAccepted};
+ghost use Rattle.fin_ast.specs.Dense.{setting_of};
 ghost use Rattle.fin_run.specs.Ends.{IsRegular};
 ghost use Rattle.fin_run.specs.States.{machine};
 ghost use Rattle.fin_run.specs.Storages.{storage_in};
-ghost use Rattle.fin_lower.specs.Plans.{plan_of};
-ghost use Rattle.fin_stage.specs.Staged.{coordinate_work};
+ghost use Rattle.fin_lower.specs.Plans.{IsPlan};
+ghost use Rattle.fin_stage.specs.Wordy.{IsWordy};
+ghost use Rattle.fin_simp.specs.Work.{work_of};
 ghost use Rattle.fin_ast.specs.Kinds.{is_output as is_output_kind};
 ghost use Rattle.fin_engine.specs.Run.{HoldsOutputs, IsFront, IsSpent, RunsOne, StoresAll, begun, left_by};
 
@@ -14,7 +16,7 @@ use crate::job::Job;
 use fin_ast::{Header, Kind};
 use fin_base::{Fail, Refusal, Rule, Steps};
 use fin_ir::{Plan, RunError};
-use fin_lower::lower;
+use fin_lower::{accepted_is_lowered, lower};
 use fin_run::{Held, State, run_code};
 use fin_tensor::{Outputs, Seq, Storage};
 use std::alloc::{AllocError, Global};
@@ -31,8 +33,8 @@ pub struct Done {
 
 /// Runs a job by its loop code, within a budget of work.
 ///
-/// The outputs are the canonical storages of what dense evaluation gives, and the work is that of the program,
-/// coordinate by coordinate.
+/// The outputs are the canonical storages of what dense evaluation gives, and the work is that of the program, by the
+/// pieces of its loops.
 ///
 /// # Errors
 ///
@@ -57,12 +59,14 @@ fn run_plan(alloc: Global, job: &Job, plan: &Plan, budget: u64) -> Result<State,
     requires budget { budget ≤ 2 ^ 40 }
     requires accepted { IsAccepted job.now.checked }
     requires inputs { FitProgram job.now.checked job.now.inputs }
-    requires plan { plan.now ≡ plan_of job.now.checked }
+    requires plan { IsPlan job.now.checked plan.now }
+    requires wordy { IsWordy (setting_of job.now.checked job.now.inputs) }
     ensures held { IfOk result (λ s. HoldsOutputs job.now.checked job.now.inputs s.tensors.items 0) }
-    ensures work { IfOk result (λ s. s.work ≡ coordinate_work job.now.checked job.now.inputs) }
-    ensures within { IfOk result (λ s. coordinate_work job.now.checked job.now.inputs ≤ budget) }
+    ensures work { IfOk result (λ s. s.work ≡ work_of job.now.checked job.now.inputs) }
+    ensures within { IfOk result (λ s. work_of job.now.checked job.now.inputs ≤ budget) }
     ensures spent { IfErr result (IsSpent job.now.checked job.now.inputs budget) }
 {
+    accepted_is_lowered();
     let mut state = State::new(alloc, &plan.layout)?;
     match uncounted(alloc, plan, job.inputs.as_slice(), &mut state, budget) {
         Ok(()) => Ok(state),
