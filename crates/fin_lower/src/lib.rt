@@ -10,7 +10,6 @@
 //! program, by the pieces of its loops; where it is cut, its charges are over 2^40, and at most that work.
 #![tactic(auto)]
 
-mod body;
 mod laws;
 mod plan;
 

@@ -4,9 +4,9 @@ ghost use Rattle.fin_ast.specs.declared.header.Header.{Header};
 ghost use Rattle.fin_perform.specs.Layouts.{kind_number as number_of, layout_with};
 ghost use Rattle.fin_lower.specs.Plans.{IsPlan};
 
-use crate::body::{Codes, lower_body};
 use fin_ast::{Checked, Header, Kind};
 use fin_ir::{Code, Layout, Plan};
+use fin_stmts::{Codes, lower_body};
 use fin_tensor::{Duplicate, Format, Seq};
 use std::alloc::{AllocError, Global};
 
