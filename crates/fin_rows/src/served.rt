@@ -40,13 +40,13 @@ fn limits_are_kept(rt: HostRuntime) -> Result<(), Fail> {
 // A run ends whole where its budget is its work.
 const ENOUGH: [Case; 2] = [
     Case {
-        words: &["finch", "run", "--budget", "23"],
+        words: &["finch", "run", "--budget", "30"],
         job: TIMES,
         out: TIMES_TEXT,
         ..RUN
     },
     Case {
-        words: &["finch", "run", "--budget", "18"],
+        words: &["finch", "run", "--budget", "21"],
         job: MASK,
         out: MASK_TEXT,
         ..RUN
@@ -61,17 +61,17 @@ const OVER: Case = Case {
 
 const TOO_LITTLE: [Case; 4] = [
     Case {
-        words: &["finch", "run", "--budget", "22"],
+        words: &["finch", "run", "--budget", "29"],
         job: TIMES,
         ..OVER
     },
     Case {
-        words: &["finch", "run", "--budget", "17"],
+        words: &["finch", "run", "--budget", "20"],
         job: MASK,
         ..OVER
     },
     Case {
-        words: &["finch", "run", "--budget", "1000"],
+        words: &["finch", "run", "--budget", "5"],
         job: ENDLESS,
         ..OVER
     },
