@@ -16,6 +16,7 @@ use Rattle.fin_looplet.proofs.Rows.{view_case_row, sound_case_row, free_case_row
 use Rattle.fin_nest.specs.Nests.{Nest, Separate}
 use Rattle.fin_style_point.specs.Steps.{Alternatives, switch_of, first_case, alternatives, Choice, here_or_later, first_switch}
 use Rattle.fin_style_point.proofs.Within.{Within}
+use Rattle.fin_style_point.proofs.Cases.{holds_on, row_is}
 
 -- one for a looplet, where the test is off or isn't
 pub record Branch (l taken : Looplet) (test : IExpr) (off : Bool) : Type 0 where
@@ -74,45 +75,10 @@ later l rest taken test off b = record {
   test_loads = λ t h. inr (b.test_loads t h);
 }
 
--- ---- the other cases of a switch
+-- ---- a switch by its first case
 
 apart_tests : true ≡ false → ⊥
 apart_tests e = absurd (cc)
-
-module _ (ts : Store) (ls : List ℤ) (hi i : ℤ) where
-  others_view : {n : _} (cs : Row_of-Case n) (end : ℤ) → SoundCases Near ts ls cs (λ j. j <ℤ hi) i → view ts ls (switch_of (case_list cs)) end i ≡ view_cases ts ls cs end i
-  others_view end_of-Case end s = absurd s
-  others_view (more_of-Case test child rest) end s = view_case_row ts ls (more_of-Case test child rest) end i
-
-  others_sound : {n : _} (cs : Row_of-Case n) → SoundCases Near ts ls cs (λ j. j <ℤ hi) i → SoundWithin Near ts ls (switch_of (case_list cs)) (λ j. j <ℤ hi) i
-  others_sound end_of-Case s = absurd s
-  others_sound (more_of-Case test child rest) s = sound_case_row Near ts ls (more_of-Case test child rest) (λ j. j <ℤ hi) i s
-
-others_owns : {n : _} (x : ℕ) (cs : Row_of-Case n) → Owns x (switch_of (case_list cs)) → OwnsCases x cs
-others_owns x end_of-Case f = absurd f
-others_owns x (more_of-Case test child rest) f = owns_case_row x (more_of-Case test child rest) f
-
-others_free : {n : _} (x : ℕ) (cs : Row_of-Case n) → Free x (switch_of (case_list cs)) → FreeCases x cs
-others_free x end_of-Case f = absurd f
-others_free x (more_of-Case test child rest) f = free_case_row x (more_of-Case test child rest) f
-
-others_loads : {n : _} (x : ℕ) (cs : Row_of-Case n) → LoadsIn x (switch_of (case_list cs)) → LoadsCases x cs
-others_loads x end_of-Case f = absurd f
-others_loads x (more_of-Case test child rest) f = loads_case_row x (more_of-Case test child rest) f
-
-others_shifts : {n : _} (x : ℕ) (cs : Row_of-Case n) → ShiftNames x (switch_of (case_list cs)) → ShiftNamesCases x cs
-others_shifts x end_of-Case f = absurd f
-others_shifts x (more_of-Case test child rest) f = shift_names_case_row x (more_of-Case test child rest) f
-
-others_nested : {n : _} (cs : Row_of-Case n) → NestedCases cs → Nested (switch_of (case_list cs))
-others_nested end_of-Case h = tt
-others_nested (more_of-Case test child rest) h = nested_case_row (more_of-Case test child rest) h
-
-others_weight : {n : _} (cs : Row_of-Case n) → weight (switch_of (case_list cs)) < 2 + weight_cases cs
-others_weight end_of-Case = omega arith
-others_weight (more_of-Case test child rest) = omega (arith, weight_case_row (more_of-Case test child rest))
-
--- ---- a switch by its first case
 
 taken_shows : (ts : Store) (ls : List ℤ) (hi end i : ℤ) {n : _} (cs : Row_of-Case n) → is_off (value ts ls (first_case cs).test) ≡ false → SoundCases Near ts ls cs (λ j. j <ℤ hi) i → view ts ls (first_case cs).taken end i ≡ view_cases ts ls cs end i
 taken_shows ts ls hi end i end_of-Case t s = absurd s
@@ -122,16 +88,6 @@ taken_sound : (ts : Store) (ls : List ℤ) (hi i : ℤ) {n : _} (cs : Row_of-Cas
 taken_sound ts ls hi i end_of-Case t s = absurd s
 taken_sound ts ls hi i (more_of-Case test child rest) t (inl s) = absurd (apart_tests (sym s.0 ∙ t))
 taken_sound ts ls hi i (more_of-Case test child rest) t (inr s) = s.1
-
-passed_shows : (ts : Store) (ls : List ℤ) (hi end i : ℤ) {n : _} (cs : Row_of-Case n) → is_off (value ts ls (first_case cs).test) ≡ true → SoundCases Near ts ls cs (λ j. j <ℤ hi) i → view ts ls (first_case cs).others end i ≡ view_cases ts ls cs end i
-passed_shows ts ls hi end i end_of-Case t s = absurd s
-passed_shows ts ls hi end i (more_of-Case test child rest) t (inl s) = others_view ts ls hi i rest end s.1 ∙ sym (ap (λ (b : Bool). if b then view_cases ts ls rest end i else view ts ls child end i) t)
-passed_shows ts ls hi end i (more_of-Case test child rest) t (inr s) = absurd (apart_tests (sym t ∙ s.0))
-
-passed_sound : (ts : Store) (ls : List ℤ) (hi i : ℤ) {n : _} (cs : Row_of-Case n) → is_off (value ts ls (first_case cs).test) ≡ true → SoundCases Near ts ls cs (λ j. j <ℤ hi) i → SoundWithin Near ts ls (first_case cs).others (λ j. j <ℤ hi) i
-passed_sound ts ls hi i end_of-Case t s = absurd s
-passed_sound ts ls hi i (more_of-Case test child rest) t (inl s) = others_sound ts ls hi i rest s.1
-passed_sound ts ls hi i (more_of-Case test child rest) t (inr s) = absurd (apart_tests (sym t ∙ s.0))
 
 taken_owns : {n : _} (x : ℕ) (cs : Row_of-Case n) → Owns x (first_case cs).taken → OwnsCases x cs
 taken_owns x end_of-Case f = absurd f
@@ -156,6 +112,67 @@ taken_nested (more_of-Case test child rest) h = h.0
 taken_weight : {n : _} (cs : Row_of-Case n) → weight (first_case cs).taken < 1 + weight_cases cs
 taken_weight end_of-Case = omega arith
 taken_weight (more_of-Case test child rest) = omega arith
+
+-- ---- the other cases of a switch
+
+module _ (ts : Store) (ls : List ℤ) (hi i : ℤ) where
+  others_view : {n : _} (cs : Row_of-Case n) (end : ℤ) → SoundCases Near ts ls cs (λ j. j <ℤ hi) i → view ts ls (switch_of (case_list cs)) end i ≡ view_cases ts ls cs end i
+  others_view end_of-Case end s = absurd s
+  others_view (more_of-Case test child rest) end s =
+      let cs = more_of-Case test child rest in
+      row_is (λ l. view ts ls l end i ≡ view_cases ts ls cs end i) test child rest (λ h. taken_shows ts ls hi end i cs (holds_on ts ls test h) s) (view_case_row ts ls cs end i)
+
+  others_sound : {n : _} (cs : Row_of-Case n) → SoundCases Near ts ls cs (λ j. j <ℤ hi) i → SoundWithin Near ts ls (switch_of (case_list cs)) (λ j. j <ℤ hi) i
+  others_sound end_of-Case s = absurd s
+  others_sound (more_of-Case test child rest) s =
+      let cs = more_of-Case test child rest in
+      row_is (λ l. SoundWithin Near ts ls l (λ j. j <ℤ hi) i) test child rest (λ h. taken_sound ts ls hi i cs (holds_on ts ls test h) s) (sound_case_row Near ts ls cs (λ j. j <ℤ hi) i s)
+
+others_owns : {n : _} (x : ℕ) (cs : Row_of-Case n) → Owns x (switch_of (case_list cs)) → OwnsCases x cs
+others_owns x end_of-Case f = absurd f
+others_owns x (more_of-Case test child rest) f =
+    let cs = more_of-Case test child rest in
+    row_is (λ l. Owns x l → OwnsCases x cs) test child rest (λ h. taken_owns x cs) (owns_case_row x cs) f
+
+others_free : {n : _} (x : ℕ) (cs : Row_of-Case n) → Free x (switch_of (case_list cs)) → FreeCases x cs
+others_free x end_of-Case f = absurd f
+others_free x (more_of-Case test child rest) f =
+    let cs = more_of-Case test child rest in
+    row_is (λ l. Free x l → FreeCases x cs) test child rest (λ h. taken_free x cs) (free_case_row x cs) f
+
+others_loads : {n : _} (x : ℕ) (cs : Row_of-Case n) → LoadsIn x (switch_of (case_list cs)) → LoadsCases x cs
+others_loads x end_of-Case f = absurd f
+others_loads x (more_of-Case test child rest) f =
+    let cs = more_of-Case test child rest in
+    row_is (λ l. LoadsIn x l → LoadsCases x cs) test child rest (λ h. taken_loads x cs) (loads_case_row x cs) f
+
+others_shifts : {n : _} (x : ℕ) (cs : Row_of-Case n) → ShiftNames x (switch_of (case_list cs)) → ShiftNamesCases x cs
+others_shifts x end_of-Case f = absurd f
+others_shifts x (more_of-Case test child rest) f =
+    let cs = more_of-Case test child rest in
+    row_is (λ l. ShiftNames x l → ShiftNamesCases x cs) test child rest (λ h. taken_shifts x cs) (shift_names_case_row x cs) f
+
+others_nested : {n : _} (cs : Row_of-Case n) → NestedCases cs → Nested (switch_of (case_list cs))
+others_nested end_of-Case h = tt
+others_nested (more_of-Case test child rest) h = row_is Nested test child rest (λ e. h.0) (nested_case_row (more_of-Case test child rest) h)
+
+others_weight : {n : _} (cs : Row_of-Case n) → weight (switch_of (case_list cs)) < 2 + weight_cases cs
+others_weight end_of-Case = omega arith
+others_weight (more_of-Case test child rest) =
+    let cs = more_of-Case test child rest in
+    row_is (λ l. weight l < 2 + weight_cases cs) test child rest (λ h. omega arith) (omega (arith, weight_case_row cs))
+
+-- ---- a switch by its other cases
+
+passed_shows : (ts : Store) (ls : List ℤ) (hi end i : ℤ) {n : _} (cs : Row_of-Case n) → is_off (value ts ls (first_case cs).test) ≡ true → SoundCases Near ts ls cs (λ j. j <ℤ hi) i → view ts ls (first_case cs).others end i ≡ view_cases ts ls cs end i
+passed_shows ts ls hi end i end_of-Case t s = absurd s
+passed_shows ts ls hi end i (more_of-Case test child rest) t (inl s) = others_view ts ls hi i rest end s.1 ∙ sym (ap (λ (b : Bool). if b then view_cases ts ls rest end i else view ts ls child end i) t)
+passed_shows ts ls hi end i (more_of-Case test child rest) t (inr s) = absurd (apart_tests (sym t ∙ s.0))
+
+passed_sound : (ts : Store) (ls : List ℤ) (hi i : ℤ) {n : _} (cs : Row_of-Case n) → is_off (value ts ls (first_case cs).test) ≡ true → SoundCases Near ts ls cs (λ j. j <ℤ hi) i → SoundWithin Near ts ls (first_case cs).others (λ j. j <ℤ hi) i
+passed_sound ts ls hi i end_of-Case t s = absurd s
+passed_sound ts ls hi i (more_of-Case test child rest) t (inl s) = others_sound ts ls hi i rest s.1
+passed_sound ts ls hi i (more_of-Case test child rest) t (inr s) = absurd (apart_tests (sym t ∙ s.0))
 
 passed_owns : {n : _} (x : ℕ) (cs : Row_of-Case n) → Owns x (first_case cs).others → OwnsCases x cs
 passed_owns x end_of-Case f = absurd f

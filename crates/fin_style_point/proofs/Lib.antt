@@ -1,4 +1,5 @@
 pub mod Within
+pub mod Cases
 pub mod Origins
 pub mod Spikes
 pub mod Shifts

@@ -7,6 +7,7 @@ use Rattle.fin_looplet.specs.Lists.{case_list}
 use Rattle.fin_nest.specs.Jumping.{HoldsJumper, CaseHolds, SimplyJumps, CasesJump, NoneHolds}
 use Rattle.fin_nest.proofs.Jumping.{From, itself, switch_from, moved_from, AllFrom, themselves}
 use Rattle.fin_style_point.specs.Steps.{unshifted, Alternatives, switch_of, first_case, alternatives, Choice, here_or_later, first_switch, is_flat, AllFlat, held}
+use Rattle.fin_style_point.proofs.Cases.{row_is}
 
 -- ---- shifts
 
@@ -24,11 +25,13 @@ unshifted_from (Shift' by p (more_of-Looplet child end_of-Looplet)) = let m = mo
 
 rest_holds : {n : _} (cs : Row_of-Case n) → HoldsJumper (switch_of (case_list cs)) → CaseHolds cs
 rest_holds end_of-Case h = absurd h
-rest_holds (more_of-Case test child rest) h = (switch_from (more_of-Case test child rest)).0 h
+rest_holds (more_of-Case test child rest) h =
+    let cs = more_of-Case test child rest in
+    row_is (λ l. HoldsJumper l → CaseHolds cs) test child rest (λ e k. inl k) ((switch_from cs).0) h
 
 rest_jumps : {n : _} (cs : Row_of-Case n) → CasesJump cs → SimplyJumps (switch_of (case_list cs))
 rest_jumps end_of-Case h = tt
-rest_jumps (more_of-Case test child rest) h = (switch_from (more_of-Case test child rest)).1 h
+rest_jumps (more_of-Case test child rest) h = row_is SimplyJumps test child rest (λ e. h.0) ((switch_from (more_of-Case test child rest)).1 h)
 
 taken_holds : {n : _} (cs : Row_of-Case n) → HoldsJumper (first_case cs).taken → CaseHolds cs
 taken_holds end_of-Case h = absurd h

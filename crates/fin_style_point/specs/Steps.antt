@@ -1,8 +1,9 @@
 -- The steps of the point styles: each from a nest to its parts and to the code between them.
-use Rattle.std.specs.Prelude.{◌≡◌, ◌⊎◌, ℕ, ◌+◌, List, [], ◌∷◌, ◌++◌, ◌||◌, map, Bool, true, Option, Some, None, pos}
+use Rattle.std.specs.Prelude.{◌≡◌, ◌⊎◌, ℕ, ◌+◌, List, [], ◌∷◌, ◌++◌, ◌||◌, map, Bool, true, false, not, if◌then◌else◌, Option, Some, None, pos}
 use Rattle.fin_base.specs.declared.terms.Op.TheVariants as op
 use Rattle.fin_ir.specs.declared.expression.IExpr.{IExpr}
 use Rattle.fin_ir.specs.declared.expression.IExpr.TheVariants.{Num, Local, Two}
+use Rattle.fin_ir.specs.Value.{is_off}
 use Rattle.fin_ir.specs.declared.code.Code.{Code}
 use Rattle.fin_ir.specs.declared.code.Code.TheVariants.{Skip, Seq, Assign, When, ForLoop}
 use Rattle.fin_looplet.specs.declared.looplet.Case.{Case}
@@ -58,9 +59,15 @@ pub record Alternatives : Type 0 where
   pub taken : Looplet
   pub others : Looplet
 
+-- a literal that isn't 0
+abbrev pub holds : IExpr → Bool
+holds (Num n) = not (is_off n)
+holds e = false
+
+-- a row of cases; where the first one's test is a literal that holds, its child, so that no code branches on it
 abbrev pub switch_of : List Case → Looplet
 switch_of [] = nothing_there
-switch_of (c ∷ cs) = Switch (c ∷ cs)
+switch_of (c ∷ cs) = if holds c.test then c.child else Switch (c ∷ cs)
 
 abbrev pub first_case : {n : _} → Row_of-Case n → Alternatives
 first_case end_of-Case = record { test = Num (pos 0); taken = nothing_there; others = nothing_there }

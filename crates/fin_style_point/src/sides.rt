@@ -1,7 +1,7 @@
 //! The sides of the first switch.
 ghost use Rattle.std.specs.Prelude.{◌≡◌, IfOk};
 ghost use Rattle.fin_nest.specs.Entries.{looplets};
-ghost use Rattle.fin_style_point.specs.Steps.{alternatives, nothing_there, switch_of};
+ghost use Rattle.fin_style_point.specs.Steps.{alternatives, nothing_there, holds, switch_of};
 ghost use Rattle.fin_style_point.specs.Parts.{side, side_of, alternatives_of, chosen, choose, test_of, first_test};
 
 use crate::heads::is_switch;
@@ -80,11 +80,26 @@ fn nothing_there() -> Looplet
 fn switch_of(alloc: Global, cases: &[Case]) -> Result<Looplet, AllocError>
     ensures { IfOk result (λ l. l ≡ switch_of cases.now) }
 {
-    if cases.is_empty() {
-        return Ok(nothing_there());
+    match cases.first() {
+        None => Ok(nothing_there()),
+        Some(first) => {
+            if holds(&first.test) {
+                return first.child.copy(alloc);
+            }
+            let cases = copies(alloc, cases)?;
+            Ok(Looplet::Switch(cases))
+        }
     }
-    let cases = copies(alloc, cases)?;
-    Ok(Looplet::Switch(cases))
+}
+
+// A test that is a literal, and not 0.
+fn holds(test: &IExpr) -> bool
+    ensures { result ≡ holds test.now }
+{
+    match test {
+        IExpr::Num(n) => *n != 0,
+        _ => false,
+    }
 }
 
 fn copies(alloc: Global, cases: &[Case]) -> Result<Items<Case>, AllocError>
