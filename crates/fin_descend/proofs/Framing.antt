@@ -17,6 +17,7 @@ use Rattle.fin_looplet.specs.declared.looplet.Looplet.TheVariants.{Run, Spike, L
 use Rattle.fin_looplet.specs.Cut.{cut}
 use Rattle.fin_looplet.specs.Locals.{Owns, OwnsPhases, OwnsCases}
 use Rattle.fin_looplet.specs.Lists.{AnyOwns, phase_list, case_list}
+use Rattle.fin_looplet.proofs.Bridges.{owns_case}
 use Rattle.fin_looplet.proofs.CutLocals.{cut_owns}
 use Rattle.fin_looplet.proofs.MovedLocals.{moved_owns}
 use Rattle.fin_looplet.proofs.Rows.{owns_phase_row, owns_case_row}
@@ -30,6 +31,7 @@ use Rattle.fin_style_point.specs.declared.nest.Branch.{Branch}
 use Rattle.fin_style_point.specs.declared.nest.Branch.TheVariants.{Taken, Others}
 use Rattle.fin_style_point.specs.Steps as point
 use Rattle.fin_style_point.specs.Parts as points
+use Rattle.fin_style_point.proofs.Cases.{switch_is}
 use Rattle.fin_style_step.specs.declared.nest.Nest as stepping
 use Rattle.fin_style_step.specs.declared.nest.Parts as along
 use Rattle.fin_style_step.specs.declared.nest.Kind.{Kind}
@@ -69,7 +71,7 @@ module _ (x : ℕ) where
 
   others_of_switch : (cs : List Case) → Owns x (point.switch_of cs) → Owns x (Switch cs)
   others_of_switch [] o = absurd o
-  others_of_switch (c ∷ cs) o = o
+  others_of_switch (c ∷ cs) o = switch_is (λ l. Owns x l → Owns x (Switch (c ∷ cs))) c cs (λ e k. owns_case x c cs (inl k)) (λ k. k) o
 
   side_owns : {n : _} (b : Branch) (cs : Row_of-Case n) → Owns x (points.side b (point.first_case cs)) → OwnsCases x cs
   side_owns Taken end_of-Case o = o

@@ -17,6 +17,7 @@ use Rattle.fin_style_point.specs.declared.nest.Branch.{Branch}
 use Rattle.fin_style_point.specs.declared.nest.Branch.TheVariants.{Taken, Others}
 use Rattle.fin_style_point.specs.Steps as point
 use Rattle.fin_style_point.specs.Parts as points
+use Rattle.fin_style_point.proofs.Cases.{switch_is}
 use Rattle.fin_style_step.specs.declared.nest.Kind.{Kind}
 use Rattle.fin_style_step.specs.declared.nest.Kind.TheVariants as kind
 use Rattle.fin_style_step.specs.Steps as step
@@ -120,7 +121,7 @@ held_jumpless (Shift' by p child) h = h
 
 others_of_switch : (cs : List Case) → CasesJumpless cs → Jumpless (point.switch_of cs)
 others_of_switch [] h = tt
-others_of_switch (c ∷ cs) h = switch_jumpless (c ∷ cs) h
+others_of_switch (c ∷ cs) h = switch_is Jumpless c cs (λ e. h.0) (switch_jumpless (c ∷ cs) h)
 
 side_jumpless : {n : _} (b : Branch) (cs : Row_of-Case n) → JumplessCases cs → Jumpless (points.side b (point.first_case cs))
 side_jumpless Taken end_of-Case h = tt

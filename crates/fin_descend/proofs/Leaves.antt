@@ -19,6 +19,7 @@ use Rattle.fin_style_point.specs.declared.nest.Branch.{Branch}
 use Rattle.fin_style_point.specs.declared.nest.Branch.TheVariants.{Taken, Others}
 use Rattle.fin_style_point.specs.Steps as point
 use Rattle.fin_style_point.specs.Parts as points
+use Rattle.fin_style_point.proofs.Cases.{switch_is}
 use Rattle.fin_style_step.specs.declared.nest.Kind.{Kind}
 use Rattle.fin_style_step.specs.declared.nest.Kind.TheVariants as kind
 use Rattle.fin_style_step.specs.Steps as step
@@ -135,7 +136,7 @@ module _ (P L : Leaf → Type 0) (kept : Kept P L) where
 
   other_cases : (cs : List Case) → CasesHave cs → AllLeaves P L (point.switch_of cs)
   other_cases [] h = kept.gap
-  other_cases (c ∷ cs) h = switch_leaves (c ∷ cs) h
+  other_cases (c ∷ cs) h = switch_is (AllLeaves P L) c cs (λ e. h.0) (switch_leaves (c ∷ cs) h)
 
   side_leaves : {n : _} (b : Branch) (cs : Row_of-Case n) → CasesAllLeaves P L cs → AllLeaves P L (points.side b (point.first_case cs))
   side_leaves Taken end_of-Case h = kept.gap

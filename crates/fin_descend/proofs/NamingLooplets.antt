@@ -23,6 +23,7 @@ use Rattle.fin_style_point.specs.declared.nest.Branch.{Branch}
 use Rattle.fin_style_point.specs.declared.nest.Branch.TheVariants.{Taken, Others}
 use Rattle.fin_style_point.specs.Steps as point
 use Rattle.fin_style_point.specs.Parts as points
+use Rattle.fin_style_point.proofs.Cases.{switch_is}
 use Rattle.fin_style_step.specs.declared.nest.Kind.{Kind}
 use Rattle.fin_style_step.specs.declared.nest.Kind.TheVariants as kind
 use Rattle.fin_style_step.specs.Steps as step
@@ -172,7 +173,7 @@ module _ (layout : Layout) where
 
   other_cases : (cs : List Case) → CasesHave cs → Named (point.switch_of cs)
   other_cases [] h = tt
-  other_cases (c ∷ cs) h = switch_named (c ∷ cs) h
+  other_cases (c ∷ cs) h = switch_is Named c cs (λ e. h.1.0) (switch_named (c ∷ cs) h)
 
   first_case_named : {n : _} (cs : Row_of-Case n) → CasesNamed layout cs → Either (Some (point.first_case cs))
   first_case_named end_of-Case h = (named_num layout (pos 0), (tt, tt))
