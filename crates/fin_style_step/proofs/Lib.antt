@@ -1,6 +1,7 @@
 pub mod Narrowing
 pub mod Phases
 pub mod Divisions
+pub mod Limiting
 pub mod Sequences
 pub mod Walks
 pub mod Origins

@@ -17,13 +17,14 @@ use Rattle.fin_ir.proofs.Values.{value_two, value_local}
 use Rattle.fin_ir.proofs.Codes.{meaning_seq, meaning_assign}
 use Rattle.fin_ir.proofs.Loops.{span_is}
 use Rattle.fin_looplet.specs.declared.looplet.Looplet.{Looplet}
+use Rattle.fin_ir.specs.declared.expression.IExpr.{IExpr}
 use Rattle.fin_looplet.specs.Names.{Names, Loads}
 use Rattle.fin_looplet.specs.View.{Store, value, View}
 use Rattle.fin_looplet.specs.Sound.{Near}
 use Rattle.fin_looplet.specs.Like.{AllLike}
 use Rattle.fin_looplet.specs.Lists.{views, AllSound, AnyFree, AnyLoads}
 use Rattle.fin_looplet.specs.Weight.{is_point}
-use Rattle.fin_looplet.proofs.Exprs.{get, value_same, loads_two, loads_local, names_local}
+use Rattle.fin_looplet.proofs.Exprs.{get, value_same, loads_two}
 use Rattle.fin_looplet.proofs.Lists.{views_same, all_same}
 use Rattle.fin_nest.specs.Nests.{fresh, flag_at, paid_at, Nest, Sense, at_flags, part, fold, Kept, Separate, Bounds, Jumps, Fits, Does, Means}
 use Rattle.fin_nest.specs.Laws.{Lawful, Onward}
@@ -33,19 +34,21 @@ use Rattle.fin_nest.proofs.Means.{unbound, near_in, with_local, assigns, compute
 use Rattle.fin_nest.proofs.Jumping.{AllFrom, jumps_within}
 use Rattle.fin_style_step.specs.Steps.{Division, first_sequence, here_nest, others_nest, divide_at, sequence_code}
 use Rattle.fin_style_step.specs.Laws.{SequenceSplits}
+use Rattle.fin_style_step.specs.Limited.{end_before, begin_behind}
+use Rattle.fin_style_step.proofs.Limiting.{EndsAt, end_at, end_names, end_loads, BeginsAt, begin_at, begin_names, begin_loads}
 use Rattle.fin_style_step.proofs.Divisions.{AllWithin, Divided, divided, all_like}
 use Rattle.fin_style_step.proofs.Narrowing.{Sees, separate_part}
 use Rattle.fin_style_step.proofs.Origins.{sequence_parts_from}
 
 module _ {S : Type 0} (layout : Layout) (sense : Sense S) (law : Lawful sense) (n : Nest S) (apart : Separate n) (on : Onward sense n.body) (room : n.next < layout.locals) (d : Division) (div : Divided n.hi n.reads d) (from : AllFrom n.reads d.here × AllFrom n.reads d.others)
-    (a b : Code) (mean_a : Means layout sense a (here_nest n d.here)) (mean_b : Means layout sense b (others_nest n d.others)) where
-  kept_here : (x : ℕ) → Kept n x → Kept (here_nest n d.here) x
+    (a b : Code) (mean_a : Means layout sense a (here_nest n d.stop d.here)) (mean_b : Means layout sense b (others_nest n d.stop d.others)) where
+  kept_here : (x : ℕ) → Kept n x → Kept (here_nest n d.stop d.here) x
   kept_here x k = let w = k.below in record { below = omega (arith, w); no_var = k.no_var; no_own = λ o. k.no_own (div.here.owns x o) }
 
-  kept_next : (x : ℕ) → Kept n x → Kept (others_nest n d.others) x
+  kept_next : (x : ℕ) → Kept n x → Kept (others_nest n d.stop d.others) x
   kept_next x k = let w = k.below in record { below = omega (arith, w); no_var = k.no_var; no_own = λ o. k.no_own (div.others.owns x o) }
 
-  kept_at : Kept (here_nest n d.here) n.next
+  kept_at : Kept (here_nest n d.stop d.here) n.next
   kept_at = record {
     below = omega arith;
     no_var = unbound (n.binds n.next) (λ e. let w = apart.binds_below n.next e in omega (arith, w));
@@ -132,63 +135,88 @@ module _ {S : Type 0} (layout : Layout) (sense : Sense S) (law : Lawful sense) (
         let c1 : Cut ≤ℤ pos (2 ^ 40) = at_most_in Cut (pos (2 ^ 40)) (omega (arith, x, y, cut_up, le_out Lo (pos (2 ^ 40)) f.low_top, le_out Hi (pos (2 ^ 40)) f.high_top)) in
         (record { low = f.low; low_top = f.low_top; high = c0; high_top = c1 }, record { low = c0; low_top = c1; high = f.high; high_top = f.high_top })
 
-    -- the first part
-    shows_a : Shows ts m.locals m1.locals n (here_nest n d.here) Lo Cut
+    -- the first part ends at the cut, or has no coordinate
+    abbrev End : ℤ
+    End = value ts m1.locals (end_before n.hi d.stop n.next)
+
+    end_is : EndsAt End Cut (int_min Hi Stop)
+    end_is = subst (λ z. EndsAt End z (int_min Hi Stop)) sees_cut (end_at ts m.locals m1.locals n.hi d.stop n.next)
+
+    end_under : End ≤ℤ Cut
+    end_under = ⊎_elim (λ e. at_most_in End Cut (omega (arith, ap up e, ap down e))) (λ w. w.0) end_is
+
+    end_low : pos 0 ≤ℤ End
+    end_low = ⊎_elim (λ e. subst (λ z. pos 0 ≤ℤ z) (sym e) bounds_cut.0.high) (λ w. w.1.0) end_is
+
+    end_span : span Lo End ≡ span Lo Cut
+    end_span = ⊎_elim (λ e. ap (span Lo) e) (λ w.
+        let x = int_max_is Lo (int_min Stop Hi) in let y = int_min_is Stop Hi in let z = int_min_is Hi Stop in
+        omega (arith, span_is Lo End, span_is Lo Cut, x, y, z, cut_up, le_out End Cut w.0, le_out (int_min Hi Stop) End w.1.1)) end_is
+
+    before_end : (i : ℤ) → i <ℤ End → i <ℤ Cut
+    before_end i lt = below_in i Cut (omega (arith, lt_out i End lt, le_out End Cut end_under))
+
+    end_bounds : Bounds Lo End
+    end_bounds =
+        let b = bounds_cut.0 in
+        record { low = b.low; low_top = b.low_top; high = end_low; high_top = at_most_in End (pos (2 ^ 40)) (omega (arith, le_out End Cut end_under, le_out Cut (pos (2 ^ 40)) b.high_top)) }
+
+    shows_a : Shows ts m.locals m1.locals n (here_nest n d.stop d.here) Lo End
     shows_a = record {
       lo = lo1;
-      hi = sees_cut;
+      hi = refl;
       like = λ i low lt.
-          let w = before_cut i low lt in
-          let end = value ts m1.locals (Local n.next) in
+          let w = before_cut i low (before_end i lt) in
+          let end = End in
           let stop1 : value ts m1.locals d.stop ≡ Stop = value_same ts d.stop m1.locals m.locals (λ x e. free1 x (div.stop_names x e)) in
           let s1 = all_same Near ts n.reads m.locals m1.locals (λ j. j <ℤ Hi) i (sym long1) (λ x f. sym (free1 x f)) (fits.sound i low w.1) in
           let low' : Lo ≤ℤ (i +ℤ pos 1) = at_most_in Lo (i +ℤ pos 1) (omega (arith, le_out Lo i low, sum_is_lem i (pos 1))) in
-          let l = div.here_like ts m1.locals Cut Hi end i
-          (λ x. subst (λ z. (i +ℤ pos 1) <ℤ z) (sym hi1) (before_cut (i +ℤ pos 1) low' x).1)
-          (λ x. subst (λ z. (i +ℤ pos 1) <ℤ z) (sym stop1) (before_cut (i +ℤ pos 1) low' x).0)
+          let l = div.here_like ts m1.locals End Hi end i
+          (λ x. subst (λ z. (i +ℤ pos 1) <ℤ z) (sym hi1) (before_cut (i +ℤ pos 1) low' (before_end (i +ℤ pos 1) x)).1)
+          (λ x. subst (λ z. (i +ℤ pos 1) <ℤ z) (sym stop1) (before_cut (i +ℤ pos 1) low' (before_end (i +ℤ pos 1) x)).0)
           (near_in Lo Hi i fits.bounds low w.1) (subst (λ z. i <ℤ z) (sym hi1) w.1) (subst (λ z. i <ℤ z) (sym stop1) w.0) s1 in
           let v : views ts m1.locals n.reads (value ts m1.locals n.hi) i ≡ views ts m.locals n.reads Hi i = ap (λ z. views ts m1.locals n.reads z i) hi1 ∙ views_same ts n.reads m1.locals m.locals Hi i long1 free1 in
-          subst (λ (vs : List View). AllLike ((i +ℤ pos 1) <ℤ Cut) (views ts m1.locals d.here end i) vs) v l;
+          subst (λ (vs : List View). AllLike ((i +ℤ pos 1) <ℤ End) (views ts m1.locals d.here end i) vs) v l;
     }
 
-    sound_a : (i : ℤ) → value ts m1.locals n.lo ≤ℤ i → i <ℤ value ts m1.locals (Local n.next) → AllSound Near ts m1.locals d.here (λ j. j <ℤ value ts m1.locals (Local n.next)) i
+    sound_a : (i : ℤ) → value ts m1.locals n.lo ≤ℤ i → i <ℤ End → AllSound Near ts m1.locals d.here (λ j. j <ℤ End) i
     sound_a i low lt =
         let low' = subst (λ z. z ≤ℤ i) lo1 low in
-        let lt' = subst (λ z. i <ℤ z) sees_cut lt in
+        let lt' = before_end i lt in
         let w = before_cut i low' lt' in
         let stop1 : value ts m1.locals d.stop ≡ Stop = value_same ts d.stop m1.locals m.locals (λ x e. free1 x (div.stop_names x e)) in
         let s1 = all_same Near ts n.reads m.locals m1.locals (λ j. j <ℤ Hi) i (sym long1) (λ x f. sym (free1 x f)) (fits.sound i low' w.1) in
-        div.here_sound ts m1.locals Hi (value ts m1.locals (Local n.next)) i (near_in Lo Hi i fits.bounds low' w.1) (subst (λ z. i <ℤ z) (sym hi1) w.1) (subst (λ z. i <ℤ z) (sym stop1) w.0)
+        div.here_sound ts m1.locals Hi End i (near_in Lo Hi i fits.bounds low' w.1) (subst (λ z. i <ℤ z) (sym hi1) w.1) (subst (λ z. i <ℤ z) (sym stop1) w.0)
         (λ j q.
-        let c = lt_out j (value ts m1.locals (Local n.next)) q in
-        let e = ap up sees_cut in let g = ap down sees_cut in
+        let c = lt_out j Cut (before_end j q) in
         let k = lt_out i Cut lt' in let l = le_out Lo i low' in let x = int_max_is Lo (int_min Stop Hi) in let y = int_min_is Stop Hi in
-        (below_in j Hi (omega (arith, c, e, g, k, l, x, y, cut_up)), subst (λ z. j <ℤ z) (sym stop1) (below_in j Stop (omega (arith, c, e, g, k, l, x, y, cut_up)))))
+        (below_in j Hi (omega (arith, c, k, l, x, y, cut_up)), subst (λ z. j <ℤ z) (sym stop1) (below_in j Stop (omega (arith, c, k, l, x, y, cut_up)))))
         s1
 
-    fits_a : Fits layout ts m1 (here_nest n d.here)
+    fits_a : Fits layout ts m1 (here_nest n d.stop d.here)
     fits_a = record {
       live = fits.live;
       locals = long1 ∙ fits.locals;
       steady = fits.steady;
       pinned = λ x v e. like1 x (apart.pins x v e).below ∙ fits.pinned x v e;
-      bounds = subst (λ z. Bounds z (value ts m1.locals (Local n.next))) (sym lo1) (subst (λ z. Bounds Lo z) (sym sees_cut) bounds_cut.0);
+      bounds = subst (λ z. Bounds z End) (sym lo1) end_bounds;
       sound = sound_a;
     }
 
-    jumps_a : Jumps sense ts m1.locals (here_nest n d.here)
+    jumps_a : Jumps sense ts m1.locals (here_nest n d.stop d.here)
     jumps_a =
-        jumps_within sense ts m.locals m1.locals n (here_nest n d.here) Lo Cut refl shows_a from.0
-        (λ i low next. (low, (before_cut (i +ℤ pos 1) (at_most_in Lo (i +ℤ pos 1) (omega (arith, le_out Lo i low, sum_is_lem i (pos 1)))) next).1)) jumps
+        jumps_within sense ts m.locals m1.locals n (here_nest n d.stop d.here) Lo End refl shows_a from.0
+        (λ i low next. (low, (before_cut (i +ℤ pos 1) (at_most_in Lo (i +ℤ pos 1) (omega (arith, le_out Lo i low, sum_is_lem i (pos 1)))) (before_end (i +ℤ pos 1) next)).1)) jumps
 
-    does_a : Does sense ts s m1 m2 (here_nest n d.here)
+    does_a : Does sense ts s m1 m2 (here_nest n d.stop d.here)
     does_a = mean_a.does ts s m1 fits_a jumps_a stands1
 
     abbrev s2 : S
     s2 = part sense.pay ts m.locals n (span Lo Cut) fresh Lo s
 
     stands2 : sense.stands s2 m2
-    stands2 = subst (λ z. sense.stands z m2) (shown sense.pay ts m.locals m1.locals n (here_nest n d.here) Lo Cut s refl refl shows_a) does_a.done
+    stands2 = subst (λ z. sense.stands z m2)
+        (shown sense.pay ts m.locals m1.locals n (here_nest n d.stop d.here) Lo End s refl refl shows_a ∙ ap (λ k. part sense.pay ts m.locals n k fresh Lo s) end_span) does_a.done
 
     long2 : length m2.locals ≡ length m.locals
     long2 = does_a.long ∙ long1
@@ -220,13 +248,52 @@ module _ {S : Type 0} (layout : Layout) (sense : Sense S) (law : Lawful sense) (
       steady2 : (t : ℕ) → n.steady t ≡ true → seen m2 t ≡ seen m t
       steady2 t e = does_a.steady alive t e
 
-      -- the second part
-      shows_b : Shows ts m.locals m2.locals n (others_nest n d.others) Cut Hi
+      -- the second part begins at the cut, or has no coordinate
+      abbrev Begin : ℤ
+      Begin = value ts m2.locals (begin_behind n.lo d.stop n.next)
+
+      begin_is : BeginsAt Begin Cut (int_max Lo Stop)
+      begin_is = subst (λ z. BeginsAt Begin z (int_max Lo Stop)) cut2 (begin_at ts m.locals m2.locals n.lo d.stop n.next)
+
+      begin_over : Cut ≤ℤ Begin
+      begin_over = ⊎_elim (λ e. at_most_in Cut Begin (omega (arith, ap up e, ap down e))) (λ w. w.0) begin_is
+
+      begin_top : Begin ≤ℤ pos (2 ^ 40)
+      begin_top = ⊎_elim (λ e. subst (λ z. z ≤ℤ pos (2 ^ 40)) (sym e) bounds_cut.0.high_top) (λ w. w.1.0) begin_is
+
+      begin_bounds : Bounds Begin Hi
+      begin_bounds =
+          let b = bounds_cut.1 in
+          record { low = at_most_in (pos 0) Begin (omega (arith, le_out (pos 0) Cut b.low, le_out Cut Begin begin_over)); low_top = begin_top; high = b.high; high_top = b.high_top }
+
+      void_over : (w : (Cut ≤ℤ Begin) × ((Begin ≤ℤ pos (2 ^ 40)) × (Begin ≤ℤ int_max Lo Stop))) → (Begin ≡ Cut) ⊎ ((span Begin Hi ≡ 0) × (span Cut Hi ≡ 0))
+      void_over w =
+          let x = int_max_is Lo (int_min Stop Hi) in let y = int_min_is Stop Hi in let z = int_max_is Lo Stop in
+          let a = le_out Cut Begin w.0 in let b = le_out Begin (int_max Lo Stop) w.1.1 in
+          ⊎_elim
+          (λ (q : up Cut + down Begin < up Begin + down Cut).
+          inr (omega (arith, q, span_is Begin Hi, x, y, z, cut_up, a, b), omega (arith, q, span_is Cut Hi, x, y, z, cut_up, a, b)))
+          (λ q. inl (same_in Begin Cut (omega (arith, q, a))))
+          (cases_lt (up Cut + down Begin) (up Begin + down Cut))
+
+      begin_void : (Begin ≡ Cut) ⊎ ((span Begin Hi ≡ 0) × (span Cut Hi ≡ 0))
+      begin_void = ⊎_elim (λ e. inl e) void_over begin_is
+
+      same_part : (r : S) → part sense.pay ts m.locals n (span Begin Hi) fresh Begin r ≡ part sense.pay ts m.locals n (span Cut Hi) fresh Cut r
+      same_part r = ⊎_elim
+          (λ e. ap (λ z. part sense.pay ts m.locals n (span z Hi) fresh z r) e)
+          (λ v. ap (λ k. part sense.pay ts m.locals n k fresh Begin r) v.0 ∙ sym (ap (λ k. part sense.pay ts m.locals n k fresh Cut r) v.1))
+          begin_void
+
+      after_begin : (i : ℤ) → Begin ≤ℤ i → Cut ≤ℤ i
+      after_begin i low = at_most_in Cut i (omega (arith, le_out Begin i low, le_out Cut Begin begin_over))
+
+      shows_b : Shows ts m.locals m2.locals n (others_nest n d.stop d.others) Begin Hi
       shows_b = record {
-        lo = cut2;
+        lo = refl;
         hi = hi2;
         like = λ i low lt.
-            let w = after_cut i low lt in
+            let w = after_cut i (after_begin i low) lt in
             let e : views ts m2.locals d.others (value ts m2.locals n.hi) i ≡ views ts m.locals n.reads Hi i =
             ap (λ z. views ts m2.locals d.others z i) hi2
             ∙ views_same ts d.others m2.locals m.locals Hi i long2 others2
@@ -234,15 +301,15 @@ module _ {S : Type 0} (layout : Layout) (sense : Sense S) (law : Lawful sense) (
             all_like ((i +ℤ pos 1) <ℤ Hi) (views ts m2.locals d.others (value ts m2.locals n.hi) i) (views ts m.locals n.reads Hi i) e;
       }
 
-      fits_b : Fits layout ts m2 (others_nest n d.others)
+      fits_b : Fits layout ts m2 (others_nest n d.stop d.others)
       fits_b = record {
         live = alive;
         locals = long2 ∙ fits.locals;
         steady = λ t e. steady2 t e ∙ fits.steady t e;
         pinned = λ x v e. like2 x (apart.pins x v e) ∙ fits.pinned x v e;
-        bounds = subst (λ z. Bounds z (value ts m2.locals n.hi)) (sym cut2) (subst (λ z. Bounds Cut z) (sym hi2) bounds_cut.1);
+        bounds = subst (λ z. Bounds Begin z) (sym hi2) begin_bounds;
         sound = λ i low lt.
-            let low' = subst (λ z. z ≤ℤ i) cut2 low in
+            let low' = after_begin i low in
             let lt' = subst (λ z. i <ℤ z) hi2 lt in
             let w = after_cut i low' lt' in
             let q = div.others_sound ts m.locals Hi i w.0 (fits.sound i w.1 lt') in
@@ -250,16 +317,16 @@ module _ {S : Type 0} (layout : Layout) (sense : Sense S) (law : Lawful sense) (
             subst (λ z. AllSound Near ts m2.locals d.others (λ j. j <ℤ z) i) (sym hi2) q2;
       }
 
-      jumps_b : Jumps sense ts m2.locals (others_nest n d.others)
+      jumps_b : Jumps sense ts m2.locals (others_nest n d.stop d.others)
       jumps_b =
-          jumps_within sense ts m.locals m2.locals n (others_nest n d.others) Cut Hi refl shows_b from.1
-          (λ i low next. ((after_cut i low (below_in i Hi (omega (arith, lt_out (i +ℤ pos 1) Hi next, sum_is_lem i (pos 1))))).1, next)) jumps
+          jumps_within sense ts m.locals m2.locals n (others_nest n d.stop d.others) Begin Hi refl shows_b from.1
+          (λ i low next. ((after_cut i (after_begin i low) (below_in i Hi (omega (arith, lt_out (i +ℤ pos 1) Hi next, sum_is_lem i (pos 1))))).1, next)) jumps
 
-      does_b : Does sense ts s3 m2 m3 (others_nest n d.others)
+      does_b : Does sense ts s3 m2 m3 (others_nest n d.stop d.others)
       does_b = mean_b.does ts s3 m2 fits_b jumps_b stands3
 
       alive_done : sense.stands (part sense.pay ts m.locals n (span Cut Hi) fresh Cut s3) m3
-      alive_done = subst (λ z. sense.stands z m3) (shown sense.pay ts m.locals m2.locals n (others_nest n d.others) Cut Hi s3 refl refl shows_b) does_b.done
+      alive_done = subst (λ z. sense.stands z m3) (shown sense.pay ts m.locals m2.locals n (others_nest n d.stop d.others) Begin Hi s3 refl refl shows_b ∙ same_part s3) does_b.done
 
     -- a part begins at the cut, if it is inside the region
     breaks_by : (k : ℕ) → span Lo Cut ≡ k → (span Cut Hi ≡ 0) ⊎ ((flag_at (at_flags ts m.locals n) fresh Lo k).begins ≡ true)
@@ -323,39 +390,39 @@ pub region_light : (b : Bool) → (if b then 0 else 1) ≤ 1
 region_light true = omega arith
 region_light false = omega arith
 
-module _ {S : Type 0} (n : Nest S) (part : List Looplet) (w : AllWithin n.hi n.reads part) (s : Separate n) where
+module _ {S : Type 0} (n : Nest S) (stop : IExpr) (part : List Looplet) (w : AllWithin n.hi n.reads part) (s : Separate n) where
   part_free : (x : ℕ) → AnyFree x part → Sees n (n.next + 1) part x
   part_free x f = ⊎_elim (λ e. inl (s.hi x e)) (λ g. inl (s.reads x g)) (w.free x f)
 
   part_loads : (t : ℕ) → AnyLoads t part → n.steady t ≡ true
   part_loads t f = ⊎_elim (s.hi_loads t) (s.loads t) (w.loads t f)
 
-  new_local : (x : ℕ) → Names x (Local n.next) → Sees n (n.next + 1) part x
-  new_local x h = let e = names_local x n.next h in inr (inl (omega (arith, e), omega (arith, e)))
+  new_local : (x : ℕ) → x ≡ n.next → Sees n (n.next + 1) part x
+  new_local x e = inr (inl (omega (arith, e), omega (arith, e)))
 
-  here_separate : Separate (here_nest n part)
-  here_separate = separate_part n n.lo (Local n.next) (n.next + 1) part (record {
+  here_separate : Separate (here_nest n stop part)
+  here_separate = separate_part n n.lo (end_before n.hi stop n.next) (n.next + 1) part (record {
     later = omega arith;
     owns = w.owns;
     lo_sees = λ x h. inl (s.lo x h);
-    hi_sees = new_local;
+    hi_sees = λ x h. new_local x (end_names n.hi stop n.next x h);
     free = part_free;
     lo_loads = s.lo_loads;
-    hi_loads = λ t h. absurd (loads_local t n.next h);
+    hi_loads = λ t h. absurd (end_loads n.hi stop n.next t h);
     loads = part_loads;
     shifts = w.shifts;
     nested = w.nested s.own.nested;
     apart = w.apart s.own.apart;
   }) s
 
-  others_separate : Separate (others_nest n part)
-  others_separate = separate_part n (Local n.next) n.hi (n.next + 1) part (record {
+  others_separate : Separate (others_nest n stop part)
+  others_separate = separate_part n (begin_behind n.lo stop n.next) n.hi (n.next + 1) part (record {
     later = omega arith;
     owns = w.owns;
-    lo_sees = new_local;
+    lo_sees = λ x h. new_local x (begin_names n.lo stop n.next x h);
     hi_sees = λ x h. inl (s.hi x h);
     free = part_free;
-    lo_loads = λ t h. absurd (loads_local t n.next h);
+    lo_loads = λ t h. absurd (begin_loads n.lo stop n.next t h);
     hi_loads = s.hi_loads;
     loads = part_loads;
     shifts = w.shifts;
@@ -368,6 +435,6 @@ sequence_splits layout sense law n d e =
     let w = divided n.hi n.reads d e in
     record {
       means = λ apart on room a b ma mb. record { does = λ ts s m fits j r. sequence_does layout sense law n apart on room d w (sequence_parts_from n.hi n.reads d e) a b ma mb ts s m fits j r };
-      lighter = (omega (arith, w.here.lighter, region_light (is_point n.lo (Local n.next))), omega (arith, w.others.lighter, region_light (is_point (Local n.next) n.hi)));
-      separate = λ s. (here_separate n d.here w.here s, others_separate n d.others w.others s);
+      lighter = (omega (arith, w.here.lighter, region_light (is_point n.lo (end_before n.hi d.stop n.next))), omega (arith, w.others.lighter, region_light (is_point (begin_behind n.lo d.stop n.next) n.hi)));
+      separate = λ s. (here_separate n d.stop d.here w.here s, others_separate n d.stop d.others w.others s);
     }

@@ -56,11 +56,15 @@ module _ {S : Type 0} (b : Behind S) (n : plain.Nest) where
   abbrev with_reads : Nest S → List Looplet → Nest S
   with_reads x rs = record x { reads = rs }
 
-  pub here_is_nest : (c : Division) → first_sequence n.hi (all_looplets n) ≡ Some c → here_nest whole c.here ≡ nest_with b (course_of (here_part n))
-  here_is_nest c h = ap (λ (rs : List Looplet). here_nest whole rs) (sym (here_is n.hi n.reads n.masks c h))
+  pub here_is_nest : (c : Division) → first_sequence n.hi (all_looplets n) ≡ Some c → here_nest whole c.stop c.here ≡ nest_with b (course_of (here_part n))
+  here_is_nest c h =
+      ap (λ (e : IExpr). here_nest whole e c.here) (sym (nest_stop_is n c h))
+      ∙ ap (λ (rs : List Looplet). here_nest whole (nest_stop n) rs) (sym (here_is n.hi n.reads n.masks c h))
 
-  pub others_are_nest : (c : Division) → first_sequence n.hi (all_looplets n) ≡ Some c → others_nest whole c.others ≡ nest_with b (course_of (others_part n))
-  others_are_nest c h = ap (λ (rs : List Looplet). others_nest whole rs) (sym (others_are n.hi n.reads n.masks c h))
+  pub others_are_nest : (c : Division) → first_sequence n.hi (all_looplets n) ≡ Some c → others_nest whole c.stop c.others ≡ nest_with b (course_of (others_part n))
+  others_are_nest c h =
+      ap (λ (e : IExpr). others_nest whole e c.others) (sym (nest_stop_is n c h))
+      ∙ ap (λ (rs : List Looplet). others_nest whole (nest_stop n) rs) (sym (others_are n.hi n.reads n.masks c h))
 
   pub stepper_is_nest : stepper_nest whole ≡ nest_with b (course_of (stepper_part n))
   stepper_is_nest = ap (with_reads (stepper_nest whole)) (sym (insides_both kind.Stepper n.hi n.reads n.masks))
@@ -182,7 +186,7 @@ module _ {S : Type 0} (layout : Layout) (sense : Sense S) (law : Lawful sense) (
       let means = split.means asked.separate asked.onward room x y here others in
       let stop = nest_stop_is n d f.is in
       subst Goal (sym (fill_divided n.next n.lo n.hi (nest_stop n) x y ∙ ap (λ (e : IExpr). divided_code n.next n.lo n.hi e x y) stop))
-      (meant (here_nest (whole b n) d.here) split.lighter.0 (divided_code n.next n.lo n.hi d.stop x y) means)
+      (meant (here_nest (whole b n) d.stop d.here) split.lighter.0 (divided_code n.next n.lo n.hi d.stop x y) means)
   sequence_fills f (x ∷ y ∷ z ∷ rest) m = absurd m.1.1
 
   jumper_fills : Walked n style.jumper jumper → (codes : List Code) → MeantAll layout sense b (course_of (jumper_part n) ∷ []) codes → Goal (fill (jumper_frame n) codes)

@@ -19,10 +19,10 @@ Lighter part n = weight_of part.reads part.lo part.hi < weight_of n.reads n.lo n
 -- ---- sequence
 
 pub record SequenceSplits {S : Type 0} (layout : Layout) (sense : Sense S) (n : Nest S) (d : Division) : Type 0 where
-  pub means : Separate n → Onward sense n.body → n.next < layout.locals → (a b : Code) → Means layout sense a (here_nest n d.here)
-      → Means layout sense b (others_nest n d.others) → Means layout sense (sequence_code n d.stop a b) n
-  pub lighter : Lighter (here_nest n d.here) n × Lighter (others_nest n d.others) n
-  pub separate : Separate n → Separate (here_nest n d.here) × Separate (others_nest n d.others)
+  pub means : Separate n → Onward sense n.body → n.next < layout.locals → (a b : Code) → Means layout sense a (here_nest n d.stop d.here)
+      → Means layout sense b (others_nest n d.stop d.others) → Means layout sense (sequence_code n d.stop a b) n
+  pub lighter : Lighter (here_nest n d.stop d.here) n × Lighter (others_nest n d.stop d.others) n
+  pub separate : Separate n → Separate (here_nest n d.stop d.here) × Separate (others_nest n d.stop d.others)
 
 abbrev pub SequencesSplit : Type 0
 SequencesSplit = (s : Start) (layout : Layout)

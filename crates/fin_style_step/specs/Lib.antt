@@ -1,3 +1,4 @@
+pub mod Limited
 pub mod Steps
 pub mod Laws
 pub mod Parts

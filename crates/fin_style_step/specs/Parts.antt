@@ -16,6 +16,7 @@ use Rattle.fin_style_step.specs.declared.nest.Nest.{Nest}
 use Rattle.fin_style_step.specs.declared.nest.Parts.{Parts}
 use Rattle.fin_style_step.specs.declared.nest.Kind.{Kind}
 use Rattle.fin_style_step.specs.declared.nest.Kind.TheVariants as kind
+use Rattle.fin_style_step.specs.Limited.{end_before, begin_behind}
 use Rattle.fin_style_step.specs.Steps.{Phased, nothing_there, sequence_of, phased, divided_code, stepper, jumper, walkers, inside, steps_code, jumps_code}
 
 -- the looplets of the reads, and then those of the masks
@@ -72,22 +73,6 @@ others_all = by_first others_one
 abbrev pub masks_wait : Nest → Bool
 masks_wait n = not (style.has style.sequence (looplets n.reads))
 
-abbrev pub here_part : Nest → Nest
-here_part n = record n {
-  hi = Local n.next;
-  next = n.next + 1;
-  reads = here_all n.hi true n.reads;
-  masks = here_all n.hi (masks_wait n) n.masks;
-}
-
-abbrev pub others_part : Nest → Nest
-others_part n = record n {
-  lo = Local n.next;
-  next = n.next + 1;
-  reads = others_all true n.reads;
-  masks = others_all (masks_wait n) n.masks;
-}
-
 -- the stop of the first sequence's first phase
 abbrev pub stop_of : Option Phased → Option IExpr
 stop_of None = None
@@ -103,6 +88,22 @@ first_stop (l ∷ rest) = or_else (stop_of (phased l)) (first_stop rest)
 
 abbrev pub nest_stop : Nest → IExpr
 nest_stop n = if style.has style.sequence (looplets n.reads) then first_stop (looplets n.reads) else first_stop (looplets n.masks)
+
+abbrev pub here_part : Nest → Nest
+here_part n = record n {
+  hi = end_before n.hi (nest_stop n) n.next;
+  next = n.next + 1;
+  reads = here_all n.hi true n.reads;
+  masks = here_all n.hi (masks_wait n) n.masks;
+}
+
+abbrev pub others_part : Nest → Nest
+others_part n = record n {
+  lo = begin_behind n.lo (nest_stop n) n.next;
+  next = n.next + 1;
+  reads = others_all true n.reads;
+  masks = others_all (masks_wait n) n.masks;
+}
 
 abbrev pub sequence_frame : Nest → Code
 sequence_frame n = divided_code n.next n.lo n.hi (nest_stop n) Skip Skip

@@ -14,6 +14,7 @@ use Rattle.fin_looplet.specs.View.{Store, value, at_step}
 use Rattle.fin_looplet.specs.Cut.{plus, before, cut}
 use Rattle.fin_looplet.specs.Lists.{phase_list}
 use Rattle.fin_nest.specs.Nests.{Nest}
+use Rattle.fin_style_step.specs.Limited.{end_before, begin_behind}
 
 -- ---- sequence: the first one, by its first phase; the region is cut where that phase stops
 
@@ -60,12 +61,12 @@ abbrev pub first_sequence : IExpr → List Looplet → Option Division
 first_sequence hi [] = None
 first_sequence hi (l ∷ rest) = here_or_later hi (phased l) l rest (first_sequence hi rest)
 
--- the two parts meet in a local
-abbrev pub here_nest : {S : Type 0} → Nest S → List Looplet → Nest S
-here_nest n reads = record n { hi = Local n.next; next = n.next + 1; reads = reads }
+-- the two parts meet in a local, of which what is known is written there
+abbrev pub here_nest : {S : Type 0} → Nest S → IExpr → List Looplet → Nest S
+here_nest n stop reads = record n { hi = end_before n.hi stop n.next; next = n.next + 1; reads = reads }
 
-abbrev pub others_nest : {S : Type 0} → Nest S → List Looplet → Nest S
-others_nest n reads = record n { lo = Local n.next; next = n.next + 1; reads = reads }
+abbrev pub others_nest : {S : Type 0} → Nest S → IExpr → List Looplet → Nest S
+others_nest n stop reads = record n { lo = begin_behind n.lo stop n.next; next = n.next + 1; reads = reads }
 
 -- the number in the region that is nearest to the stop
 abbrev pub divide_at : IExpr → IExpr → IExpr → IExpr

@@ -32,7 +32,8 @@ fn nest_divide_at(alloc: Global, nest: &Nest) -> Result<IExpr, AllocError>
     divide_at(alloc, lo, hi, stop)
 }
 
-fn nest_stop(alloc: Global, nest: &Nest) -> Result<IExpr, AllocError>
+/// Where the first sequence's first phase stops.
+pub(crate) fn nest_stop(alloc: Global, nest: &Nest) -> Result<IExpr, AllocError>
     ensures { IfOk result (λ e. e ≡ nest_stop nest.now) }
 {
     if any_sequence(nest.reads.as_slice()) {

@@ -20,11 +20,13 @@ mod frames;
 mod heads;
 mod joining;
 mod laws;
+mod limits;
 mod nest;
 mod stepping;
 mod walking;
 
 pub use joining::join;
 pub use laws::{jumpers_split, parts_split, sequences_split, steppers_split};
+pub use limits::is_void;
 pub use nest::{Frame, Kind, Nest, Parts};
 pub use stepping::step;

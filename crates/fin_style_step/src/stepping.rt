@@ -3,12 +3,14 @@ ghost use Rattle.std.specs.Prelude.{◌≡◌, ◌∷◌, [], IfOk, false};
 ghost use Rattle.fin_nest.specs.Styles.{sequence, jumper, style_of, is_point_style};
 ghost use Rattle.fin_style_step.specs.Parts.{all_looplets, nest_has, one_part, here_part, others_part, sequence_parts};
 ghost use Rattle.fin_style_step.specs.Parts.{inside_nest, stepper_part, stepper_frame, jumper_part, jumper_frame};
-ghost use Rattle.fin_style_step.specs.Parts.{parts_of};
+ghost use Rattle.fin_style_step.specs.Parts.{nest_stop, parts_of};
+ghost use Rattle.fin_style_step.specs.Limited.{begin_behind, end_before};
 ghost use Rattle.fin_style_step.specs.Splits.{Splits, AllLighter, StaySeparate, AreOfNest};
 
 use crate::dividing::{here_all, others_all};
-use crate::frames::{jumper_frame, sequence_frame, stepper_frame};
+use crate::frames::{jumper_frame, nest_stop, sequence_frame, stepper_frame};
 use crate::heads::{any_jumper, any_sequence};
+use crate::limits::{begin_behind, end_before};
 use crate::nest::{Kind, Nest, Parts};
 use crate::walking::inside_all;
 use fin_ast::Stmt;
@@ -88,12 +90,13 @@ fn here_part(alloc: Global, nest: &Nest) -> Result<Nest, AllocError>
     let reads = here_all(alloc, &nest.hi, nest.reads.as_slice(), true)?;
     let waits = !any_sequence(nest.reads.as_slice());
     let masks = here_all(alloc, &nest.hi, nest.masks.as_slice(), waits)?;
+    let hi = here_end(alloc, nest)?;
     let (body, lo) = copy_from(alloc, nest, &nest.lo)?;
     Ok(Nest {
         body,
         var: nest.var,
         lo,
-        hi: IExpr::Local(nest.next),
+        hi,
         next: nest.next + 1,
         reads,
         masks,
@@ -109,16 +112,31 @@ fn others_part(alloc: Global, nest: &Nest) -> Result<Nest, AllocError>
     let reads = others_all(alloc, nest.reads.as_slice(), true)?;
     let waits = !any_sequence(nest.reads.as_slice());
     let masks = others_all(alloc, nest.masks.as_slice(), waits)?;
+    let lo = others_begin(alloc, nest)?;
     let (body, hi) = copy_from(alloc, nest, &nest.hi)?;
     Ok(Nest {
         body,
         var: nest.var,
-        lo: IExpr::Local(nest.next),
+        lo,
         hi,
         next: nest.next + 1,
         reads,
         masks,
     })
+}
+
+fn here_end(alloc: Global, nest: &Nest) -> Result<IExpr, AllocError>
+    ensures { let n = nest.now in IfOk result (λ e. e ≡ end_before n.hi (nest_stop n) n.next) }
+{
+    let stop = nest_stop(alloc, nest)?;
+    end_before(alloc, &nest.hi, &stop, nest.next)
+}
+
+fn others_begin(alloc: Global, nest: &Nest) -> Result<IExpr, AllocError>
+    ensures { let n = nest.now in IfOk result (λ e. e ≡ begin_behind n.lo (nest_stop n) n.next) }
+{
+    let stop = nest_stop(alloc, nest)?;
+    begin_behind(alloc, &nest.lo, &stop, nest.next)
 }
 
 /// Copies of the nest's body and of one of its ends.
