@@ -154,7 +154,7 @@ statements_are_updates layout s n shape c at e vars is =
           let read = ap (can_read e) (sym same) ∙ Asked.reads a in
           one ∙ ap (shared begins q) (runs w t at by e vars q a) ∙ shared_is w t (map (place vars) at) by (value_of e vars (tensors_of w q)) q begins
           ∙ ap (λ ts. skipped w t (map (place vars) at) by (value_of e vars ts) (paid_first begins q)) same
-          ∙ ap (λ v. skipped w t (map (place vars) at) by v (paid_first begins q)) (sym (is.sees ts m fits r live read))
-          ∙ ap (λ zs. skipped w t zs by (value_in (behind m (is.prepared ts m fits).locals) c.value) (paid_first begins q)) (sym (is.places ts m fits r live));
+          ∙ ap (λ v. skipped w t (map (place vars) at) by v (paid_first begins q)) (sym (is.sees ts m fits r live read (Asked.small a)))
+          ∙ ap (λ zs. skipped w t zs by (value_in (behind m (is.prepared ts m fits).locals) c.value) (paid_first begins q)) (sym (is.places ts m fits r live (Asked.places a)));
       words = λ bits ts m fits r live i g. is.words bits ts m fits r live (ap regular (sym (is.body ts m fits true i r)) ∙ g);
     }

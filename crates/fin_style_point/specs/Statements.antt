@@ -8,7 +8,7 @@ use Rattle.fin_ast.specs.Dense.{shape_at}
 use Rattle.fin_ir.specs.declared.layout.Layout.{Layout}
 use Rattle.fin_ir.specs.Machine.{Machine}
 use Rattle.fin_ir.specs.Value.{value_in}
-use Rattle.fin_stage.specs.Staged.{Run, regular, tensors_of, can_read, leaf}
+use Rattle.fin_stage.specs.Staged.{Run, regular, tensors_of, can_read, has_small_indices, are_small, leaf}
 use Rattle.fin_looplet.specs.View.{Store}
 use Rattle.fin_looplet.specs.Lists.{seens}
 use Rattle.fin_nest.specs.Related.{Start, Live}
@@ -21,7 +21,7 @@ abbrev pub shared : Bool → Run → Run → Run
 shared begins before r = record r { work = before.work + (if begins then 2 else 0) }
 
 -- The body is the statement, whose coordinates and value the change's expressions have in a machine that does what the
--- run does, behind the codes before the update.
+-- run does, behind the codes before the update, where no number in an index is too large.
 pub record IsStatement (layout : Layout) (s : Start) (n : Nest Run) (shape : List ℕ) (c : Change) (at : List Index)
     (e : Expr) (vars : Numbers) : Type 0 where
   pub shape_is : shape ≡ shape_at s.setting c.tensor
@@ -31,9 +31,10 @@ pub record IsStatement (layout : Layout) (s : Start) (n : Nest Run) (shape : Lis
       ≡ shared begins r (leaf s.setting (Update c.tensor at c.by e) vars r)
   pub prepared : (ts : Store) (m : Machine) → Fits layout ts m n → Prepared layout n c.before m
   pub places : (ts : Store) (m : Machine) (fits : Fits layout ts m n) (r : Run) → Live s [] r m
+      → are_small vars at ≡ true
       → map (value_in (behind m (prepared ts m fits).locals)) c.at ≡ map (place vars) at
   pub sees : (ts : Store) (m : Machine) (fits : Fits layout ts m n) (r : Run) → Live s [] r m
-      → can_read e (tensors_of s.setting r) ≡ true
+      → can_read e (tensors_of s.setting r) ≡ true → has_small_indices e vars ≡ true
       → value_in (behind m (prepared ts m fits).locals) c.value ≡ value_of e vars (tensors_of s.setting r)
   pub words : is_bitwise c.by ≡ true → (ts : Store) (m : Machine) (fits : Fits layout ts m n) (r : Run) → Live s [] r m
       → regular (leaf s.setting (Update c.tensor at c.by e) vars r) ≡ true
