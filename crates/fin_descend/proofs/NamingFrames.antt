@@ -1,6 +1,7 @@
 -- The frame of a nest that is named in a layout is named in it, where that has the locals of the step, and so are the parts.
-use Rattle.std.proofs.Common.{◌≡◌, ℕ, ◌+◌, ◌≤◌, Bool, true, false, List, [], ◌∷◌, ◌++◌, map, refl, if◌then◌else◌, pos, arith}
+use Rattle.std.proofs.Common.{◌≡◌, ℕ, ◌+◌, ◌≤◌, ◌^◌, Bool, true, false, List, [], ◌∷◌, ◌++◌, map, Option, Some, None, refl, if◌then◌else◌, ℤ, pos, arith}
 use Rattle.std.specs.Prelude.{not}
+use Rattle.std.specs.Int.{int_min, int_max}
 use Rattle.std.specs.List.{All}
 use Rattle.std.proofs.lemmas.List.Elements.{All-cons, All-map}
 use Rattle.fin_base.specs.declared.terms.Op.TheVariants as op
@@ -27,6 +28,7 @@ use Rattle.fin_style_step.specs.declared.nest.Nest as stepping
 use Rattle.fin_style_step.specs.declared.nest.Parts as along
 use Rattle.fin_style_step.specs.declared.nest.Kind.{Kind}
 use Rattle.fin_style_step.specs.declared.nest.Kind.TheVariants as kind
+use Rattle.fin_style_step.specs.Limited.{limits_of, of_any, capped, raised, end_before, begin_behind}
 use Rattle.fin_style_step.specs.Steps as step
 use Rattle.fin_style_step.specs.Parts as steps
 use Rattle.fin_descend.specs.Parts.{as_stepping, as_point}
@@ -69,6 +71,23 @@ module _ (layout : Layout) where
   holds_named (Jumper' p walker ∷ rest) at k h = holds_named rest at k h.1
   holds_named (Switch' n cases ∷ rest) at k h = holds_named rest at k h.1
   holds_named (Shift' by p child ∷ rest) at k h = holds_named rest at k h.1
+
+  -- ---- the ends of a sequence's parts
+
+  capped_named : (o : Option ℤ) (x : ℕ) → HasLocal layout x → NamedIn layout (capped o (Local x))
+  capped_named None x has = named_local layout x has
+  capped_named (Some n) x has = named_two layout op.Min (Local x) (Num (int_max n (pos 0))) (named_local layout x has) (named_num layout (int_max n (pos 0)))
+
+  raised_named : (o : Option ℤ) (x : ℕ) → HasLocal layout x → NamedIn layout (raised o (Local x))
+  raised_named None x has = named_local layout x has
+  raised_named (Some n) x has =
+      named_two layout op.Max (Local x) (Num (int_min n (pos (2 ^ 40)))) (named_local layout x has) (named_num layout (int_min n (pos (2 ^ 40))))
+
+  end_named : (hi stop : IExpr) (x : ℕ) → HasLocal layout x → NamedIn layout (end_before hi stop x)
+  end_named hi stop x has = capped_named (of_any int_min (limits_of hi).most (limits_of stop).most) x has
+
+  begin_named : (lo stop : IExpr) (x : ℕ) → HasLocal layout x → NamedIn layout (begin_behind lo stop x)
+  begin_named lo stop x has = raised_named (of_any int_max (limits_of lo).least (limits_of stop).least) x has
 
   -- ---- walkers
 
@@ -234,7 +253,7 @@ module _ (layout : Layout) (n : Nest) (named : NamedNest layout n) where
     here_part = record {
       var = named.var;
       lo = named.lo;
-      hi = named_local layout n.next first;
+      hi = end_named layout n.hi (steps.nest_stop m) n.next first;
       reads = here_all_named layout n.hi named.hi true n.reads named.reads;
       masks = here_all_named layout n.hi named.hi (steps.masks_wait m) n.masks named.masks;
     }
@@ -242,7 +261,7 @@ module _ (layout : Layout) (n : Nest) (named : NamedNest layout n) where
     others_part : Along (steps.others_part m)
     others_part = record {
       var = named.var;
-      lo = named_local layout n.next first;
+      lo = begin_named layout n.lo (steps.nest_stop m) n.next first;
       hi = named.hi;
       reads = others_all_named layout true n.reads named.reads;
       masks = others_all_named layout (steps.masks_wait m) n.masks named.masks;
