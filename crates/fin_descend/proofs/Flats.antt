@@ -16,6 +16,7 @@ use Rattle.fin_nest.specs.Sparing.{Staying, all_spare, spares}
 use Rattle.fin_nest.proofs.Filling.{filled_skip}
 use Rattle.fin_style_point.specs.declared.nest.Nest.{Nest}
 use Rattle.fin_style_point.specs.Parts.{all_looplets, course_of}
+use Rattle.fin_style_step.specs.Limited.{is_void}
 use Rattle.fin_descend.specs.declared.stepping.Split.{Split}
 use Rattle.fin_descend.specs.declared.flattening.Flat.{Flat}
 use Rattle.fin_descend.specs.declared.flattening.Leaf.{Leaf}
@@ -36,6 +37,7 @@ use Rattle.fin_descend.proofs.Naming.{named_skip, more_named, append_named}
 use Rattle.fin_descend.proofs.NamingFills.{fills_are_named}
 use Rattle.fin_descend.proofs.NamingFrames.{parts_are_named}
 use Rattle.fin_descend.proofs.Sparing.{and_both, spared_skip, fills_spare}
+use Rattle.fin_descend.proofs.Voids.{void_means}
 
 -- ---- a leaf
 
@@ -70,6 +72,11 @@ module _ (family : Family) (comes fixed : Nest → Type 0) (n : Nest) where
   nothing_flattened r k tells is made =
       let nothing = subst (λ (x : Told). Tells_of family fixed n x) is tells in
       returned r Nothing (leaf_flattens Nothing (λ c room e. nothing_means family n (record { code = c; room = room }) nothing e) (λ P k. tt) tt tt tt) made
+
+  pub void_flattened : {E : Type 0} (r : Result Flat E) → is_void n.lo n.hi ≡ true → IfOk r (λ (f : Flat). f ≡ one_leaf Nothing)
+      → IfOk r (λ (f : Flat). Flattens family comes fixed f n)
+  void_flattened r void made =
+      returned r Nothing (leaf_flattens Nothing (λ c room e. void_means n void family (record { code = c; room = room }) e) (λ P k. tt) tt tt tt) made
 
   pub fixed_flattened : {E : Type 0} (r : Result Flat E) (k : Told) → comes n → Tells_of family fixed n k → k ≡ told.Fixed → IfOk r (λ (f : Flat). f ≡ one_leaf (Fixed n))
       → IfOk r (λ (f : Flat). Flattens family comes fixed f n)

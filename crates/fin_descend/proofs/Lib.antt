@@ -11,6 +11,7 @@ pub mod Sparing
 pub mod Framing
 pub mod Composing
 pub mod Holes
+pub mod Voids
 pub mod Flats
 pub mod Naming
 pub mod NamingFills

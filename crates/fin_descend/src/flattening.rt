@@ -20,6 +20,7 @@ use crate::weights::weighs_nothing;
 use fin_ir::Code;
 use fin_nest::fill;
 use fin_style_point::Nest;
+use fin_style_step::is_void;
 use sqlite_items::Items;
 use std::alloc::{AllocError, Global};
 
@@ -82,11 +83,15 @@ struct FlatEach {
 }
 
 /// Codes that mean the leaves of a nest, in its frame, mean the nest, whatever of the caller's family stands behind it.
+/// Nothing is asked of one whose ends are known to be the wrong way round: it has no code.
 #[cycle(flatten)]
 pub fn flatten<A: Asks>(alloc: Global, nest: &Nest, asks: &A) -> Result<Flat, AllocError>
     requires { A.comes asks.now nest.now }
     ensures { IfOk result (λ flat. Flattens (A.stands asks.now) (A.comes asks.now) (A.fixed asks.now) flat nest.now) }
 {
+    if is_void(&nest.lo, &nest.hi) {
+        return one_leaf(alloc, Leaf::Nothing);
+    }
     match asks.ask(alloc, nest)? {
         Told::Nothing => one_leaf(alloc, Leaf::Nothing),
         Told::Fixed => fixed_leaf(alloc, nest),

@@ -1,12 +1,17 @@
-use Rattle.std.proofs.Common.{arith}
+use Rattle.std.proofs.Common.{◌∙◌, sym, arith}
 use Rattle.fin_descend.proofs.Cycle.{parts_called, each_called}
-use Rattle.fin_descend.proofs.Flats.{nothing_flattened, fixed_flattened, point_flattened, split_fits, open_flattened, parts_flattened, none_flattened, each_flattened, all_flattened}
+use Rattle.fin_descend.proofs.Flats.{nothing_flattened, void_flattened, fixed_flattened, point_flattened, split_fits, open_flattened, parts_flattened, none_flattened, each_flattened, all_flattened}
 use Rattle.fin_descend.proofs.flattening.+flatten.Goals as goal
+
+pub flatten-returns-then-is_void : goal.flatten-returns-then-is_void
+flatten-returns-then-is_void g t c =
+    void_flattened (g.A.Asks.stands c.args.asks.now) (g.A.Asks.comes c.args.asks.now) (g.A.Asks.fixed c.args.asks.now) c.args.nest.now c.one_leaf.result
+    (sym c.is_void.ensures ∙ c.if-is_void.true) c.one_leaf.ensures
 
 pub flatten-returns-in-Nothing : goal.flatten-returns-in-Nothing
 flatten-returns-in-Nothing g t c =
-    nothing_flattened (g.A.Asks.stands c.args.asks.now) (g.A.Asks.comes c.args.asks.now) (g.A.Asks.fixed c.args.asks.now) c.args.nest.now c.one_leaf.result _ c.in_ok-ask.ensures
-    c.in-Nothing.is c.one_leaf.ensures
+    nothing_flattened (g.A.Asks.stands c.args.asks.now) (g.A.Asks.comes c.args.asks.now) (g.A.Asks.fixed c.args.asks.now) c.args.nest.now c.one_leaf-in-Nothing.result _ c.in_ok-ask.ensures
+    c.in-Nothing.is c.one_leaf-in-Nothing.ensures
 
 pub flatten-returns-in-Fixed : goal.flatten-returns-in-Fixed
 flatten-returns-in-Fixed g t c =
