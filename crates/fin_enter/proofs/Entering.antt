@@ -25,7 +25,7 @@ use Rattle.fin_simp.specs.Work.{Driven, Mask, is_in, parts_at, driven_at, length
 use Rattle.fin_drive.specs.Looplets.{back}
 use Rattle.fin_drive.specs.Entries.{Entry, IsFound, MadeMasks, reading_of}
 use Rattle.fin_enter.specs.Charges.{length_code}
-use Rattle.fin_enter.specs.Positions.{spot_in}
+use Rattle.fin_enter.specs.Positions.{spot_in, spot_at}
 use Rattle.fin_enter.specs.Indices.{AreAround}
 use Rattle.fin_enter.specs.Bounds.{BoundsMean}
 use Rattle.fin_enter.specs.Together.{Around, settled_index, behind_place, all_positions, behind_all, CanBePlaced, AllCanStand, FoundIn, AllFound, ArePlaced}
@@ -35,7 +35,7 @@ use Rattle.fin_enter.specs.LoopEntry.{driven_with, waiting, read_looplet, behind
 use Rattle.fin_enter.specs.Entering.{HasLengths, around_in, tests_in, bounds_from, cursors_from, entered_by, CanDrive, AllCanDrive, CanEnter, IsNestOf, Enters, EntriesAreEntrances}
 use Rattle.fin_enter.proofs.Charges.{lengths_mean}
 use Rattle.fin_enter.proofs.Indices.{indices_are_bound}
-use Rattle.fin_enter.proofs.Sites.{driven_within, stored_reads_are_found}
+use Rattle.fin_enter.proofs.Sites.{driven_within, found_at, stored_reads_are_found}
 use Rattle.fin_enter.proofs.Together.{place_grows, places_grow, all_positions_are_found}
 use Rattle.fin_enter.proofs.Masked.{bounds_grow as bounds_after, masks_are_tests, numbers_kept, all_bounds_mean}
 
@@ -79,13 +79,16 @@ module _ (h : Heads) (sc : Scope) (e : Entry) where
 
     found_as : (a : Access) (d : ℕ × Index) (at cursor : ℕ) (c : CanDrive h sc e a) → driven_index e.loop.loop.var a.at ≡ Some d
         → FoundIn e.store ks h parts e.loop.vars a (settled_index l a) at → (same : is_in e.rest.changed a.tensor ≡ false)
-        → (let f = (c.store same).frozen in IsFound e.store ks (spot_in at (back (reading_of e' a d cursor))) (stand_at e.loop.vars f.shape f.parts a.at d.0 (Some 0)))
+        → (let f = (c.store same).frozen in IsFound e.store ks (spot_at d.0 at (back (reading_of e' a d cursor))) (stand_at e.loop.vars f.shape f.parts a.at d.0 (Some 0)))
     found_as a d at cursor c driven found same =
         let settled : settled_index l a ≡ Some d = ap (λ (b : Bool). if b then None else driven_index e.loop.loop.var a.at) same ∙ driven in
         let by = back (reading_of e' a d cursor) in
         let got = (subst (λ (o : Option (ℕ × Index)). FoundIn e.store ks h parts e.loop.vars a o at) settled found) by in
-        stored_reads_are_found e.world e.run e.store (format_of h a.tensor) a.tensor (c.store same) ks (spot_in at by) e.loop.vars a.at d.0
-        (subst (λ (ns : List ℕ). IsFound e.store ks (spot_in at by) (stand_at e.loop.vars ns (parts a.tensor) a.at d.0 (Some 0))) (sym c.shape) got)
+        let s = c.store same in
+        let held = stored_reads_are_found e.world e.run e.store (format_of h a.tensor) a.tensor s ks (spot_in at by) e.loop.vars a.at d.0
+        (subst (λ (ns : List ℕ). IsFound e.store ks (spot_in at by) (stand_at e.loop.vars ns (parts a.tensor) a.at d.0 (Some 0))) (sym c.shape) got) in
+        let within = driven_within e.loop.loop.var a.at d driven in
+        found_at e.store ks e.loop.vars by (format_of h a.tensor).levels s.frozen.shape s.frozen.parts s.frozen.val a.at d.0 at s.valid (omega (arith, within, c.each)) within held
 
     at_level : (a : Access) (d : ℕ × Index) (at cursor : ℕ) → driven_index e.loop.loop.var a.at ≡ Some d → CanDrive h sc e a
         → read_looplet l a (Some d) at cursor ≡ driven_with l a d at cursor (shape_of h a.tensor)

@@ -1,5 +1,5 @@
 -- The codes of a loop's entry and the looplets of its nest are named where the names of what remains of its body are good.
-use Rattle.std.proofs.Common.{◌≡◌, ℕ, ◌+◌, ◌<◌, ◌≤◌, ℤ, pos, Bool, true, false, ◌&&◌, if◌then◌else◌, List, [], ◌∷◌, ◌++◌, map, length, Option, Some, None, refl, subst, arith}
+use Rattle.std.proofs.Common.{◌≡◌, ℕ, zero, suc, ◌+◌, ◌<◌, ◌≤◌, ℤ, pos, Bool, true, false, ◌&&◌, if◌then◌else◌, List, [], ◌∷◌, ◌++◌, map, length, Option, Some, None, refl, subst, arith}
 use Rattle.std.specs.Prelude.{slice_get, slice_index_or, nat_lt, nat_eq, ◌==◌}
 use Rattle.std.specs.List.{list_all}
 use Rattle.std.proofs.lemmas.Bool.{lt-ltb}
@@ -32,7 +32,7 @@ use Rattle.fin_enter.specs.LoopEntry.{reading_with, shape_in, waiting, read_loop
 use Rattle.fin_enter.specs.Masked.{Tested, tested_among, bound_steps, behind_bounds, AllCanBound}
 use Rattle.fin_enter.specs.NamedLooplets.{NamedLooplet, AllNamedLooplets}
 use Rattle.fin_enter.specs.Naming.{CanName, EntriesAreNamed}
-use Rattle.fin_enter.specs.Positions.{spot_in}
+use Rattle.fin_enter.specs.Positions.{place_at, there_at, spot_at}
 use Rattle.fin_enter.specs.Together.{Around, settled_index, steps_of, behind_place, all_positions, behind_all}
 use Rattle.fin_enter.proofs.Entering.{cursors_grow}
 use Rattle.fin_enter.proofs.Indices.{driven_holds}
@@ -155,9 +155,17 @@ module _ (layout : Layout) (l : Around) (sc : Scope) (rest : Rest) (next : ℕ) 
   back_named some z None is = num layout z
   back_named some z (Some y) is = two layout op.Sub (Num z) (Local y) (num layout z) (local layout y (variable some y is))
 
+  place_named : (k at : ℕ) → HasLocal layout at → Named layout (place_at k at)
+  place_named zero at has = num layout (pos 0)
+  place_named (suc k) at has = local layout at has
+
+  there_named : (k at : ℕ) → HasLocal layout at → Named layout (there_at k at)
+  there_named zero at has = num layout (pos 1)
+  there_named (suc k) at has = two layout op.Ge (Local at) (Num (pos 0)) (local layout at has) (num layout (pos 0))
+
   module _ (some : next < room) (a : Access) (is : good a ≡ true) (at cursor : ℕ) (own : at < room) where
     abbrev driven : ℕ × Index → Looplet
-    driven d = let r = reading_with l a d cursor (shape_in l a) in driven_looplet (format_of l.heads a.tensor) r (spot_in at (back r))
+    driven d = let r = reading_with l a d cursor (shape_in l a) in driven_looplet (format_of l.heads a.tensor) r (spot_at d.0 at (back r))
 
     driven_there : (d : ℕ × Index) → driven_index l.var a.at ≡ Some d → cursor + 2 ≤ room → NamedLooplet layout (driven d)
     driven_there d is_driven lt =
@@ -166,9 +174,8 @@ module _ (layout : Layout) (l : Around) (sc : Scope) (rest : Rest) (next : ℕ) 
         let named = driven_holds (is_index sc) l.var a.at d (indices_there a is) is_driven in
         let loops = left (is_loop sc i.first && is_loop sc i.second) (differ i.first i.second) named in
         let others = other_there l.var i.first i.second (left (is_loop sc i.first) (is_loop sc i.second) loops) (right (is_loop sc i.first) (is_loop sc i.second) loops) in
-        let place = local layout at (here at own) in
-        driven_named layout (format_of l.heads a.tensor) r (spot_in at (back r)) (tensor_there a is) (here cursor (omega (arith, lt))) (here (cursor + 1) (omega (arith, lt))) place
-        (two layout op.Ge (Local at) (Num (pos 0)) place (num layout (pos 0))) (back_named some (back_offset i.offset) (other r) others)
+        driven_named layout (format_of l.heads a.tensor) r (spot_at d.0 at (back r)) (tensor_there a is) (here cursor (omega (arith, lt))) (here (cursor + 1) (omega (arith, lt)))
+        (place_named d.0 at (here at own)) (there_named d.0 at (here at own)) (back_named some (back_offset i.offset) (other r) others)
 
     looplet_named : (o : Option (ℕ × Index)) → driven_index l.var a.at ≡ o → behind_cursor o cursor ≤ room → NamedLooplet layout (read_looplet l a o at cursor)
     looplet_named None is_driven lt = num layout (pos 0)

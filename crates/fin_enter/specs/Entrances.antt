@@ -18,7 +18,7 @@ use Rattle.fin_drive.specs.Looplets.{back, driven_looplet}
 use Rattle.fin_drive.specs.Turns.{seen_turn}
 use Rattle.fin_drive.specs.Watches.{watched}
 use Rattle.fin_drive.specs.Entries.{Entry, entered, watches, reading_of, MadeMasks, IsMade}
-use Rattle.fin_enter.specs.Positions.{spot_in}
+use Rattle.fin_enter.specs.Positions.{spot_at}
 use Rattle.fin_enter.specs.Sites.{IsFooted}
 
 -- a driven read's looplet, from the locals with its position and of its own
@@ -27,7 +27,7 @@ pub record Placed (e : Entry) (a : Access) (d : ℕ × Index) (l : Looplet) : Ty
   pub at : ℕ
   pub cursor : ℕ
   pub footed : IsFooted e a d format at cursor
-  pub made : l ≡ driven_looplet format (reading_of e a d cursor) (spot_in at (back (reading_of e a d cursor)))
+  pub made : l ≡ driven_looplet format (reading_of e a d cursor) (spot_at d.0 at (back (reading_of e a d cursor)))
 
 abbrev pub PlacedRead : Entry → Access → Option (ℕ × Index) → Looplet → Type 0
 PlacedRead e a None l = (leaf : Leaf) × (l ≡ looplet.Run leaf)

@@ -17,7 +17,7 @@ use Rattle.fin_simp.specs.Work.{is_in}
 use Rattle.fin_drive.specs.declared.reading.Reading.{Reading}
 use Rattle.fin_drive.specs.Looplets.{back, driven_looplet, mask_looplet}
 use Rattle.fin_enter.specs.Charges.{length_code}
-use Rattle.fin_enter.specs.Positions.{spot_in}
+use Rattle.fin_enter.specs.Positions.{spot_at}
 use Rattle.fin_enter.specs.Together.{Around, settled_index, behind_place, all_positions, behind_all}
 use Rattle.fin_enter.specs.Masked.{Tested, tested_among, bound_steps, behind_bounds}
 
@@ -38,7 +38,7 @@ abbrev pub shape_in : Around → Access → List ℕ
 shape_in l a = shape_of l.heads a.tensor
 
 abbrev pub driven_with : Around → Access → ℕ × Index → ℕ → ℕ → List ℕ → Looplet
-driven_with l a d at cursor shape = let r = reading_with l a d cursor shape in driven_looplet (format_of l.heads a.tensor) r (spot_in at (back r))
+driven_with l a d at cursor shape = let r = reading_with l a d cursor shape in driven_looplet (format_of l.heads a.tensor) r (spot_at d.0 at (back r))
 
 -- what its leaf says is never asked
 abbrev pub waiting : Looplet

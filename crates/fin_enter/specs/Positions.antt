@@ -1,5 +1,5 @@
 -- The steps that find where a driven read stands, as its loop is entered, and what they leave.
-use Rattle.std.specs.Prelude.{◌≡◌, ℕ, ◌+◌, ◌<◌, List, ◌∷◌, length, map, take, ℤ, pos, Some}
+use Rattle.std.specs.Prelude.{◌≡◌, ℕ, zero, suc, ◌+◌, ◌<◌, List, ◌∷◌, length, map, take, ℤ, pos, Some}
 use Rattle.fin_base.specs.declared.terms.Op.TheVariants as op
 use Rattle.fin_tensor.specs.declared.format.Level.{Level}
 use Rattle.fin_tensor.specs.Levels.{IsStored}
@@ -25,6 +25,20 @@ position_steps tensor levels shape xs k at = first_step (take k shape) (take k x
 -- the spot of a read whose position is in a local
 abbrev pub spot_in : ℕ → IExpr → Spot
 spot_in at by = record { place = Local at; there = Two op.Ge (Local at) (Num (pos 0)); by = by }
+
+-- The position at a level, and whether it is there: a tensor's first level has one fibre, at 0, and that is always there;
+-- further down the position is in a local.
+abbrev pub place_at : ℕ → ℕ → IExpr
+place_at zero at = Num (pos 0)
+place_at (suc k) at = Local at
+
+abbrev pub there_at : ℕ → ℕ → IExpr
+there_at zero at = Num (pos 1)
+there_at (suc k) at = Two op.Ge (Local at) (Num (pos 0))
+
+-- the spot of a read that stands at this level
+abbrev pub spot_at : ℕ → ℕ → IExpr → Spot
+spot_at k at by = record { place = place_at k at; there = there_at k at; by = by }
 
 -- the locals before `at` are as they were, and the spot is found wherever it and they are kept
 pub record IsPlaced (ts : Store) (steps : List Step) (at : ℕ) (ls : List ℤ) (stand : Stand) : Type 0 where

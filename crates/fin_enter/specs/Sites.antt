@@ -13,14 +13,14 @@ use Rattle.fin_simp.specs.Work.{World, is_in, parts_at}
 use Rattle.fin_drive.specs.declared.reading.Spot.{Spot}
 use Rattle.fin_drive.specs.Looplets.{back, other}
 use Rattle.fin_drive.specs.Entries.{Entry, IsFound, IsSite, Site, reading_of}
-use Rattle.fin_enter.specs.Positions.{spot_in}
+use Rattle.fin_enter.specs.Positions.{spot_at}
 use Rattle.fin_enter.specs.Stores.{HasFormat, IsStoredAs}
 
 -- the variable that the loop doesn't bind has a coordinate for its number, and its local has that number
 abbrev pub IsCoordinate : Numbers → List ℤ → ℕ → Type 0
 IsCoordinate vars ls x = (k : ℕ) × (number vars x ≡ pos k) × (number ls x ≡ pos k) × (k < 2 ^ 40)
 
--- the place of a driven read: its position in the local `at`, below two locals that its looplet owns
+-- the place of a driven read: its position, in the local `at` but at a first level, below two locals that its looplet owns
 pub record IsFooted (e : Entry) (a : Access) (d : ℕ × Index) (format : Format) (at cursor : ℕ) : Type 0 where
   pub driven : driven_index e.loop.loop.var a.at ≡ Some d
   pub has : HasFormat e.world.setting format a.tensor
@@ -32,10 +32,10 @@ pub record IsFooted (e : Entry) (a : Access) (d : ℕ × Index) (format : Format
   -- where the body doesn't change the tensor
   pub store : is_in e.rest.changed a.tensor ≡ false → IsStoredAs e.world e.run e.store format a.tensor
   pub found : (same : is_in e.rest.changed a.tensor ≡ false) → (let f = (store same).frozen in
-      IsFound e.store e.locals (spot_in at (back (reading_of e a d cursor))) (stand_at e.loop.vars f.shape f.parts a.at d.0 (Some 0)))
+      IsFound e.store e.locals (spot_at d.0 at (back (reading_of e a d cursor))) (stand_at e.loop.vars f.shape f.parts a.at d.0 (Some 0)))
 
 abbrev pub site_of : Entry → Access → ℕ × Index → Format → ℕ → ℕ → Site
-site_of e a d format at cursor = record { format = format; cursor = cursor; spot = spot_in at (back (reading_of e a d cursor)) }
+site_of e a d format at cursor = record { format = format; cursor = cursor; spot = spot_at d.0 at (back (reading_of e a d cursor)) }
 
 abbrev pub FootedReadsStand : Type 0
 FootedReadsStand = (e : Entry) (a : Access) (d : ℕ × Index) (format : Format) (at cursor : ℕ) → IsFooted e a d format at cursor → IsSite e a d (site_of e a d format at cursor)

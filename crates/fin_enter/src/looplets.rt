@@ -4,7 +4,7 @@ ghost use Rattle.fin_tensor.specs.Levels.{AreSmall};
 ghost use Rattle.fin_simp.specs.Gathered.{as_access};
 ghost use Rattle.fin_drive.specs.Looplets as looplets;
 ghost use Rattle.fin_nest.specs.Entries as entries;
-ghost use Rattle.fin_enter.specs.Positions.{spot_in};
+ghost use Rattle.fin_enter.specs.Positions.{spot_at};
 ghost use Rattle.fin_enter.specs.LoopEntry as made;
 ghost use Rattle.fin_enter.specs.Pushed as pushed;
 ghost use Rattle.fin_enter.specs.PushedReads as spec;
@@ -56,8 +56,27 @@ fn reading(body: LoopBody<'_>, access: &Access, level: u8, index: Index, cursor:
     }
 }
 
+// Where the fibre of a level stands whose position is in the local `at`. A first level has one, which is always there.
+fn spot_of(alloc: Global, level: u8, at: u32, by: IExpr) -> Result<Spot, AllocError>
+    ensures { IfOk result (λ s. s ≡ spot_at level at by) }
+{
+    if level == 0 {
+        return Ok(Spot {
+            place: IExpr::Num(0),
+            there: IExpr::Num(1),
+            by,
+        });
+    }
+    let there = two(alloc, Op::Ge, IExpr::Local(at), IExpr::Num(0))?;
+    Ok(Spot {
+        place: IExpr::Local(at),
+        there,
+        by,
+    })
+}
+
 // The looplet of a driven read whose position is in the local `at`.
-#[tactic(auto, using(crate::proofs::Sites::local_apart, crate::proofs::Sites::there_apart))]
+#[tactic(auto, using(crate::proofs::Sites::place_apart, crate::proofs::Sites::there_apart))]
 fn driven_from(
     alloc: Global,
     format: &Format,
@@ -68,15 +87,11 @@ fn driven_from(
     requires extent { reading.extent ≤ 2 ^ 40 }
     requires cursor { reading.cursor + 1 < 2 ^ 32 }
     requires below { at < reading.cursor }
-    ensures { IfOk result (λ l. l ≡ looplets.driven_looplet format.now reading (spot_in at (looplets.back reading))) }
+    ensures { let spot = spot_at reading.level at (looplets.back reading) in
+        IfOk result (λ l. l ≡ looplets.driven_looplet format.now reading spot) }
 {
     let by = distance(alloc, reading)?;
-    let there = two(alloc, Op::Ge, IExpr::Local(at), IExpr::Num(0))?;
-    let spot = Spot {
-        place: IExpr::Local(at),
-        there,
-        by,
-    };
+    let spot = spot_of(alloc, reading.level, at, by)?;
     driven(alloc, format, reading, spot)
 }
 

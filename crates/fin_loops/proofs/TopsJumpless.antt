@@ -31,7 +31,7 @@ use Rattle.fin_drive.specs.Looplets.{back, fibre_at, is_bare, edge_of, driven_lo
 use Rattle.fin_drive.specs.Standing.{asked_by}
 use Rattle.fin_drive.proofs.Fibres.{fibre_by}
 use Rattle.fin_read.specs.Values.{Heads, format_of, value_code}
-use Rattle.fin_enter.specs.Positions.{spot_in}
+use Rattle.fin_enter.specs.Positions.{spot_at}
 use Rattle.fin_enter.specs.Together.{Around, settled_index, behind_place}
 use Rattle.fin_enter.specs.Masked.{Tested, tested_among}
 use Rattle.fin_enter.specs.LoopEntry.{bounds_by, reading_with, shape_in, waiting, read_looplet, behind_cursor, read_looplets, mask_looplets}
@@ -125,8 +125,8 @@ driven_jumpless format r s = by_test (is_bare r) where
 
 module _ (l : Around) (at cursor : ℕ) (a : Access) where
   by_level : (d : ℕ × Index) (b : Bool)
-      → Jumpless (if b then driven_looplet (format_of l.heads a.tensor) (reading_with l a d cursor (shape_in l a)) (spot_in at (back (reading_with l a d cursor (shape_in l a)))) else waiting)
-  by_level d true = let r = reading_with l a d cursor (shape_in l a) in driven_jumpless (format_of l.heads a.tensor) r (spot_in at (back r))
+      → Jumpless (if b then driven_looplet (format_of l.heads a.tensor) (reading_with l a d cursor (shape_in l a)) (spot_at d.0 at (back (reading_with l a d cursor (shape_in l a)))) else waiting)
+  by_level d true = let r = reading_with l a d cursor (shape_in l a) in driven_jumpless (format_of l.heads a.tensor) r (spot_at d.0 at (back r))
   by_level d false = λ h. h
 
   read_jumpless : (o : Option (ℕ × Index)) → Jumpless (read_looplet l a o at cursor)

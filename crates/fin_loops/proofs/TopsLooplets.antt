@@ -27,11 +27,12 @@ use Rattle.fin_drive.specs.declared.reading.Reading.{Reading}
 use Rattle.fin_drive.specs.Looplets.{other_of, other, back_offset, back_from, back, driven_looplet, turned_round}
 use Rattle.fin_drive.proofs.Apart.{driven_owns, driven_depends, driven_apart, driven_loads}
 use Rattle.fin_drive.proofs.Inside.{driven_last}
-use Rattle.fin_enter.specs.Positions.{spot_in}
+use Rattle.fin_enter.specs.Positions.{spot_at}
 use Rattle.fin_enter.specs.Together.{Around, settled_index, behind_place, behind_all}
 use Rattle.fin_enter.specs.Masked.{Tested, behind_bounds}
 use Rattle.fin_enter.specs.LoopEntry.{reading_with, shape_in, waiting, read_looplet, behind_cursor, read_looplets, behind_cursors, mask_looplets}
 use Rattle.fin_enter.proofs.Indices.{driven_holds}
+use Rattle.fin_enter.proofs.Sites.{place_names, there_names, place_loads, there_loads}
 use Rattle.fin_enter.proofs.Together.{place_grows, places_grow}
 use Rattle.fin_enter.proofs.Masked.{bounds_grow}
 use Rattle.fin_enter.proofs.Entering.{cursor_grows, cursors_grow}
@@ -138,15 +139,13 @@ module _ (l : Around) (from to : ℕ) where
   waits first end = record { nested = tt; owns = λ x h. absurd h; depends = λ x h. absurd (names_num x (pos 0) h); shifts = λ x h. absurd h; loads = λ t h. absurd (loads_num t (pos 0) h) }
 
   module _ (at : ℕ) (low : from ≤ at) (high : at < to) where
-    place_names : (by : IExpr) (x : ℕ) → Names x (spot_in at by).place ⊎ Names x (spot_in at by).there → Below l.var from to x
-    place_names by x (inl n) = let same = names_local x at n in inr (omega (arith, same, low), omega (arith, same, high))
-    place_names by x (inr n) =
-        ⊎_elim (λ (k : Names x (Local at)). let same = names_local x at k in inr (omega (arith, same, low), omega (arith, same, high)))
-        (λ (k : Names x (Num (pos 0))). absurd (names_num x (pos 0) k)) (names_two x op.Ge (Local at) (Num (pos 0)) n)
+    spot_names : (k : ℕ) (by : IExpr) (x : ℕ) → Names x (spot_at k at by).place ⊎ Names x (spot_at k at by).there → Below l.var from to x
+    spot_names k by x (inl n) = let same = place_names k at x n in inr (omega (arith, same, low), omega (arith, same, high))
+    spot_names k by x (inr n) = let same = there_names k at x n in inr (omega (arith, same, low), omega (arith, same, high))
 
-    place_loads : (by : IExpr) (t : ℕ) → Loads t (spot_in at by).place ⊎ Loads t (spot_in at by).there → ⊥
-    place_loads by t (inl n) = loads_local t at n
-    place_loads by t (inr n) = ⊎_elim (λ (k : Loads t (Local at)). loads_local t at k) (λ (k : Loads t (Num (pos 0))). loads_num t (pos 0) k) (loads_two t op.Ge (Local at) (Num (pos 0)) n)
+    spot_loads : (k : ℕ) (by : IExpr) (t : ℕ) → Loads t (spot_at k at by).place ⊎ Loads t (spot_at k at by).there → ⊥
+    spot_loads k by t (inl n) = place_loads k at t n
+    spot_loads k by t (inr n) = there_loads k at t n
 
     module _ (a : Access) (d : ℕ × Index) (cursor : ℕ) (others : (y : ℕ) → other_of l.var d.1.first d.1.second ≡ Some y → y < l.var) where
       abbrev r : Reading
@@ -158,23 +157,23 @@ module _ (l : Around) (from to : ℕ) where
       by_names : (x : ℕ) → Names x by → Below l.var from to x
       by_names x n = inl (back_names l.var (back_offset d.1.offset) (other r) others x n)
 
-      driven_keeps : One cursor (cursor + 2) (driven_looplet (format_of l.heads a.tensor) r (spot_in at by))
+      driven_keeps : One cursor (cursor + 2) (driven_looplet (format_of l.heads a.tensor) r (spot_at d.0 at by))
       driven_keeps =
           let format = format_of l.heads a.tensor in
-          let spot = spot_in at by in
+          let spot = spot_at d.0 at by in
           let apart = driven_apart format r spot in
           record {
             nested = apart.nested;
             owns = λ x h. ⊎_elim (λ (k : x ≡ cursor). (omega (arith, k), omega (arith, k))) (λ (k : x ≡ cursor + 1). (omega (arith, k), omega (arith, k))) (driven_owns format r spot x h);
-            depends = λ x h. ⊎_elim (λ (k : Names x spot.place ⊎ Names x spot.there). place_names by x k) (λ (k : Names x by). by_names x k) (driven_depends format r spot x h);
+            depends = λ x h. ⊎_elim (λ (k : Names x spot.place ⊎ Names x spot.there). spot_names d.0 by x k) (λ (k : Names x by). by_names x k) (driven_depends format r spot x h);
             shifts = λ x h. by_names x (apart.shifts x h);
             loads = λ t h. ⊎_elim
                 (λ (k : (r.settled ≡ true) × (t ≡ r.tensor)). ap steady k.1 ∙ k.0)
-                (λ q. ⊎_elim (λ (k : Loads t spot.place ⊎ Loads t spot.there). absurd (place_loads by t k)) (λ (k : Loads t by). absurd (back_loads (back_offset d.1.offset) (other r) t k)) q)
+                (λ q. ⊎_elim (λ (k : Loads t spot.place ⊎ Loads t spot.there). absurd (spot_loads d.0 by t k)) (λ (k : Loads t by). absurd (back_loads (back_offset d.1.offset) (other r) t k)) q)
                 (driven_loads format r spot t h);
           }
 
-      by_level : (b : Bool) → One cursor (cursor + 2) (if b then driven_looplet (format_of l.heads a.tensor) r (spot_in at by) else waiting)
+      by_level : (b : Bool) → One cursor (cursor + 2) (if b then driven_looplet (format_of l.heads a.tensor) r (spot_at d.0 at by) else waiting)
       by_level true = driven_keeps
       by_level false = waits cursor (cursor + 2)
 

@@ -33,7 +33,7 @@ use Rattle.fin_drive.specs.Standing.{asked_by}
 use Rattle.fin_drive.proofs.Fibres.{fibre_by}
 use Rattle.fin_read.specs.Values.{Heads, format_of, value_code}
 use Rattle.fin_descend.specs.Leaves.{AllLeaves, EachAllLeaves, LeafWorded, Never}
-use Rattle.fin_enter.specs.Positions.{spot_in}
+use Rattle.fin_enter.specs.Positions.{spot_at}
 use Rattle.fin_enter.specs.Together.{Around, settled_index, behind_place}
 use Rattle.fin_enter.specs.Masked.{Tested}
 use Rattle.fin_enter.specs.LoopEntry.{reading_with, shape_in, waiting, read_looplet, behind_cursor, read_looplets, mask_looplets}
@@ -140,9 +140,9 @@ driven_worded format r s word = by_test (is_bare r) where
 module _ (l : Around) (words : (t : ℕ) → IsWord (format_of l.heads t).fill) where
   module _ (at cursor : ℕ) (a : Access) where
     by_level : (d : ℕ × Index) (b : Bool)
-        → Worded (if b then driven_looplet (format_of l.heads a.tensor) (reading_with l a d cursor (shape_in l a)) (spot_in at (back (reading_with l a d cursor (shape_in l a)))) else waiting)
+        → Worded (if b then driven_looplet (format_of l.heads a.tensor) (reading_with l a d cursor (shape_in l a)) (spot_at d.0 at (back (reading_with l a d cursor (shape_in l a)))) else waiting)
     by_level d true =
-        let r = reading_with l a d cursor (shape_in l a) in driven_worded (format_of l.heads a.tensor) r (spot_in at (back r)) (words a.tensor)
+        let r = reading_with l a d cursor (shape_in l a) in driven_worded (format_of l.heads a.tensor) r (spot_at d.0 at (back r)) (words a.tensor)
     by_level d false = tt
 
     read_worded : (o : Option (ℕ × Index)) → Worded (read_looplet l a o at cursor)

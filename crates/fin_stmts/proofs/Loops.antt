@@ -32,7 +32,7 @@ use Rattle.fin_drive.proofs.Apart.{driven_owns}
 use Rattle.fin_style_point.specs.declared.nest.Nest.{Nest}
 use Rattle.fin_descend.specs.declared.lowered.Lowered.{Lowered}
 use Rattle.fin_descend.specs.Sparing.{KeepsTo}
-use Rattle.fin_enter.specs.Positions.{spot_in}
+use Rattle.fin_enter.specs.Positions.{spot_at}
 use Rattle.fin_enter.specs.Together.{Around, settled_index, behind_place}
 use Rattle.fin_enter.specs.Masked.{Tested, tested_among}
 use Rattle.fin_enter.specs.LoopEntry.{bounds_by, reading_with, shape_in, waiting, read_looplet, behind_cursor, read_looplets, mask_looplets}
@@ -162,10 +162,10 @@ module _ (var : ℕ) (range : Option (ℕ × ℕ)) (par : Bool) (xs : List Stmt)
 module _ (l : Around) where
   module _ (a : Access) (at cursor y : ℕ) where
     by_level : (d : ℕ × Index) (b : Bool)
-        → Owns y (if b then driven_looplet (format_of l.heads a.tensor) (reading_with l a d cursor (shape_in l a)) (spot_in at (back (reading_with l a d cursor (shape_in l a)))) else waiting) → cursor ≤ y
+        → Owns y (if b then driven_looplet (format_of l.heads a.tensor) (reading_with l a d cursor (shape_in l a)) (spot_at d.0 at (back (reading_with l a d cursor (shape_in l a)))) else waiting) → cursor ≤ y
     by_level d true h =
         let r = reading_with l a d cursor (shape_in l a) in
-        ⊎_elim (λ (e : y ≡ cursor). omega (arith, e)) (λ (e : y ≡ cursor + 1). omega (arith, e)) (driven_owns (format_of l.heads a.tensor) r (spot_in at (back r)) y h)
+        ⊎_elim (λ (e : y ≡ cursor). omega (arith, e)) (λ (e : y ≡ cursor + 1). omega (arith, e)) (driven_owns (format_of l.heads a.tensor) r (spot_at d.0 at (back r)) y h)
     by_level d false h = absurd h
 
     read_owns : (o : Option (ℕ × Index)) → Owns y (read_looplet l a o at cursor) → cursor ≤ y
