@@ -11,6 +11,7 @@ use Rattle.fin_base.specs.declared.refusal.Fail.{Fail}
 use Rattle.fin_base.specs.declared.refusal.Rule.TheVariants.{B2, W1}
 use Rattle.fin_base.specs.declared.refusal.Fail.TheVariants as fails
 use Rattle.fin_ports.specs.Bytes.{most}
+use Rattle.fin_words.specs.declared.mode.Asked.{Asked}
 use Rattle.fin_words.specs.declared.mode.Mode.{Mode}
 use Rattle.fin_words.specs.declared.mode.Mode.TheVariants.{Run, Check, Plain, Gen}
 use Rattle.fin_ast.specs.Dense.{function_of}
@@ -37,30 +38,30 @@ refuses_comes refusal (Ok answer) source out Is h same is = (refused refusal.rul
 refuses_comes refusal (Err stop) source out Is h same is = subst (λ s. Comes source out Is (Err s)) (sym h) (inl (nothing out same))
 
 -- what is due for a job has status 0 or 1
-low_run : (budget : ℕ) (text : List ℕ) (due : Due) → IsDueRun budget text due → due.status ≤ 1
-low_run budget text due (IsDueRun.over job h over) = omega arith
-low_run budget text due (IsDueRun.whole job outputs h is) = omega arith
+low_run : (asks : Asked) (text : List ℕ) (due : Due) → IsDueRun asks text due → due.status ≤ 1
+low_run asks text due (IsDueRun.over job h over) = omega arith
+low_run asks text due (IsDueRun.whole job outputs h is) = omega arith
 
 low_plain : (text : List ℕ) (due : Due) → IsDuePlain text due → due.status ≤ 1
 low_plain text due (IsDuePlain.over job h over) = omega arith
 low_plain text due (IsDuePlain.whole job outputs h is) = omega arith
 
-low_then : (budget : ℕ) (mode : Mode) (job : List ℕ) (due : Due) → IsDueThen budget mode job due → due.status ≤ 1
-low_then budget Run job due h = low_run budget job due h
-low_then budget Check job due h = omega (arith, ap (λ d. d.status) h)
-low_then budget Plain job due h = low_plain job due h
-low_then budget Gen job due h = omega (arith, ap (λ d. d.status) h)
+low_then : (asks : Asked) (mode : Mode) (job : List ℕ) (due : Due) → IsDueThen asks mode job due → due.status ≤ 1
+low_then asks Run job due h = low_run asks job due h
+low_then asks Check job due h = omega (arith, ap (λ d. d.status) h)
+low_then asks Plain job due h = low_plain job due h
+low_then asks Gen job due h = omega (arith, ap (λ d. d.status) h)
 
-low_read : (budget : ℕ) (mode : Mode) (job : List ℕ) (due : Due) → IsDueRead job (IsDueThen budget mode job) due → due.status ≤ 1
-low_read budget mode job due (IsDueRead.too_long many) = omega arith
-low_read budget mode job due (IsDueRead.breaks rule line few h) = omega arith
-low_read budget mode job due (IsDueRead.passes d few h next) = low_then budget mode job due next
+low_read : (asks : Asked) (mode : Mode) (job : List ℕ) (due : Due) → IsDueRead job (IsDueThen asks mode job) due → due.status ≤ 1
+low_read asks mode job due (IsDueRead.too_long many) = omega arith
+low_read asks mode job due (IsDueRead.breaks rule line few h) = omega arith
+low_read asks mode job due (IsDueRead.passes d few h next) = low_then asks mode job due next
 
-pub low_due : (budget : ℕ) (mode : Mode) (job : List ℕ) (due : Due) → IsDueMode budget mode job due → due.status ≤ 1
-low_due budget Run job due h = low_read budget Run job due h
-low_due budget Check job due h = low_read budget Check job due h
-low_due budget Plain job due h = low_read budget Plain job due h
-low_due budget Gen job due h = omega (arith, ap (λ d. d.status) h)
+pub low_due : (asks : Asked) (mode : Mode) (job : List ℕ) (due : Due) → IsDueMode asks mode job due → due.status ≤ 1
+low_due asks Run job due h = low_read asks Run job due h
+low_due asks Check job due h = low_read asks Check job due h
+low_due asks Plain job due h = low_read asks Plain job due h
+low_due asks Gen job due h = omega (arith, ap (λ d. d.status) h)
 
 -- what comes then, comes of a job that breaks no rule
 pub comes_then : (job : List ℕ) (Next : Due → Type 0) (source out : Across) (r : Result Answer Stop) → length job ≤ most → Accepts job → Comes source out Next r → Comes source out (IsDueRead job Next) r
@@ -84,12 +85,12 @@ comes_over text job inputs source out (fails.Refused refusal) r is given over h 
 comes_over text job inputs source out (fails.Memory e) r is given over h same = subst (Comes source out (IsDuePlain text)) (sym h) (inl (nothing out same))
 
 -- a job whose work is over the budget
-pub comes_spent : (budget : ℕ) (text : List ℕ) (job : Job) (source out : Across) (fail : Fail) (r : Result Answer Stop) → IsJob text job
-    → IsSpent job.checked job.inputs budget fail → Fails fail r → out.after ≡ out.before → Comes source out (IsDueRun budget text) r
-comes_spent budget text job source out (fails.Refused refusal) r is spent h same =
-    refuses_comes (record { rule = W1; line = 0 }) r source out (IsDueRun budget text) (subst (λ (x : Refusal). Refuses x r) spent.0 h) same
+pub comes_spent : (asks : Asked) (text : List ℕ) (job : Job) (source out : Across) (fail : Fail) (r : Result Answer Stop) → IsJob text job
+    → IsSpent job.checked job.inputs asks.budget fail → Fails fail r → out.after ≡ out.before → Comes source out (IsDueRun asks text) r
+comes_spent asks text job source out (fails.Refused refusal) r is spent h same =
+    refuses_comes (record { rule = W1; line = 0 }) r source out (IsDueRun asks text) (subst (λ (x : Refusal). Refuses x r) spent.0 h) same
     (IsDueRun.over job is spent.1)
-comes_spent budget text job source out (fails.Memory e) r is spent h same = subst (Comes source out (IsDueRun budget text)) (sym h) (inl (nothing out same))
+comes_spent asks text job source out (fails.Memory e) r is spent h same = subst (Comes source out (IsDueRun asks text)) (sym h) (inl (nothing out same))
 
 -- ---- outputs that were computed
 
@@ -102,13 +103,13 @@ comes_as due Is source out (Err Memory) is h = elim h [ inl empty ↦ inl empty 
 
 -- the outputs of dense evaluation are due
 pub plain_is : (text : List ℕ) (job : Job) (inputs : List Storage) (outputs : Outputs) → IsJob text job → inputs ≡ job.inputs → IsPlain job.checked inputs outputs
-    → IsDuePlain text (due_outputs job outputs)
+    → IsDuePlain text (due_outputs job outputs [])
 plain_is text job inputs outputs is given plain = IsDuePlain.whole job outputs is (subst (λ (x : List Storage). IsPlain job.checked x outputs) given plain)
 
 -- the text that is written is the text that is due
-pub text_is : (job : Job) (outputs : Outputs) (headers : List Header) (written : List (ℕ × Storage)) → headers ≡ job.checked.program.headers → written ≡ outputs.tensors
-    → outputs_text headers written ≡ (due_outputs job outputs).out
-text_is job outputs headers written h o = ap₂ outputs_text h o
+pub text_is : (job : Job) (outputs : Outputs) (told : List ℕ) (headers : List Header) (written : List (ℕ × Storage)) → headers ≡ job.checked.program.headers → written ≡ outputs.tensors
+    → outputs_text headers written ≡ (due_outputs job outputs told).out
+text_is job outputs told headers written h o = ap₂ outputs_text h o
 
 -- the number of each output is that of a header
 pub are_named : (c : Checked) (inputs : List Storage) (outputs : Outputs) (headers : List Header) (written : List (ℕ × Storage)) → AreStored (function_of c inputs) (outputs_from 0 c.program.headers) outputs.tensors
@@ -120,9 +121,9 @@ are_named c inputs outputs headers written is h o =
     (subst (All (λ (output : ℕ × Storage). output.0 < length c.program.headers)) (sym o) there)
 
 -- what comes of a mode that reads a job
-pub comes_of_mode : (budget : ℕ) (mode : Mode) (source out : Across) (job : List ℕ) (r : Result Answer Stop) → mode ≢ Gen → Reads source true job (IsOk r) → Comes source out (IsDueRead job (IsDueThen budget mode job)) r
-    → (x : List ℕ) × Reads source (reads_job mode) x (IsOk r) × Comes source out (IsDueMode budget mode x) r
-comes_of_mode budget Run source out job r other reads comes = (job, reads, comes)
-comes_of_mode budget Check source out job r other reads comes = (job, reads, comes)
-comes_of_mode budget Plain source out job r other reads comes = (job, reads, comes)
-comes_of_mode budget Gen source out job r other reads comes = absurd (other refl)
+pub comes_of_mode : (asks : Asked) (mode : Mode) (source out : Across) (job : List ℕ) (r : Result Answer Stop) → mode ≢ Gen → Reads source true job (IsOk r) → Comes source out (IsDueRead job (IsDueThen asks mode job)) r
+    → (x : List ℕ) × Reads source (reads_job mode) x (IsOk r) × Comes source out (IsDueMode asks mode x) r
+comes_of_mode asks Run source out job r other reads comes = (job, reads, comes)
+comes_of_mode asks Check source out job r other reads comes = (job, reads, comes)
+comes_of_mode asks Plain source out job r other reads comes = (job, reads, comes)
+comes_of_mode asks Gen source out job r other reads comes = absurd (other refl)

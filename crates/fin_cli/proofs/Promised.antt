@@ -11,7 +11,7 @@ use Rattle.fin_engine.specs.declared.job.Job.{Job}
 use Rattle.fin_tensor.specs.declared.outputs.Outputs.{Outputs}
 use Rattle.fin_cli.specs.Due.{Due, IsDue, IsDueMode, IsDuePlain, IsDueRead, IsDueRun, IsDueThen, outputs_text, reads_job, unread}
 use Rattle.fin_cli.specs.Ends.{Across, Failed, Finished, Serves, Took, Unwritten}
-use Rattle.fin_cli.specs.Promises.{AreOutputs, Completes, HasCauses, IsSilent, IsUnasked, UsesExactly, WritesExactly}
+use Rattle.fin_cli.specs.Promises.{AreOutputs, Completes, HasCauses, IsSilent, IsUnasked, Tells, TellsExactly, UsesExactly, WritesExactly}
 use Rattle.fin_cli.proofs.Comings.{low_due}
 use Rattle.fin_cli.proofs.OneDue.{one_due}
 
@@ -24,9 +24,9 @@ record Written (budget : ℕ) (mode : Mode) (text : List ℕ) (due : Due) : Type
   are : AreOutputs budget mode job outputs
   text_is : due.out ≡ outputs_text job.checked.program.headers outputs.tensors
 
-run_written : (budget : ℕ) (text : List ℕ) (due : Due) → length text ≤ most → IsDueRun budget text due → due.status ≡ 0 → Written budget Run text due
-run_written budget text due few (IsDueRun.over job h over) zero = absurd (omega arith)
-run_written budget text due few (IsDueRun.whole job outputs h is) zero = record { few = few; job = job; stands = h; outputs = outputs; are = is; text_is = refl }
+run_written : (asks : Asked) (text : List ℕ) (due : Due) → length text ≤ most → IsDueRun asks text due → due.status ≡ 0 → Written asks.budget Run text due
+run_written asks text due few (IsDueRun.over job h over) zero = absurd (omega arith)
+run_written asks text due few (IsDueRun.whole job outputs h is) zero = record { few = few; job = job; stands = h; outputs = outputs; are = is; text_is = refl }
 
 plain_written : (budget : ℕ) (text : List ℕ) (due : Due) → length text ≤ most → IsDuePlain text due → due.status ≡ 0 → Written budget Plain text due
 plain_written budget text due few (IsDuePlain.over job h over) zero = absurd (omega arith)
@@ -44,11 +44,11 @@ writes_outputs Check = false
 writes_outputs Plain = true
 writes_outputs Gen = false
 
-mode_written : (budget : ℕ) (mode : Mode) (text : List ℕ) (due : Due) → writes_outputs mode ≡ true → IsDueMode budget mode text due → due.status ≡ 0 → Written budget mode text due
-mode_written budget Run text due e is zero = read_written budget Run text (IsDueRun budget text) due (λ d few h z. run_written budget text d few h z) is zero
-mode_written budget Check text due e is zero = cc
-mode_written budget Plain text due e is zero = read_written budget Plain text (IsDuePlain text) due (λ d few h z. plain_written budget text d few h z) is zero
-mode_written budget Gen text due e is zero = cc
+mode_written : (asks : Asked) (mode : Mode) (text : List ℕ) (due : Due) → writes_outputs mode ≡ true → IsDueMode asks mode text due → due.status ≡ 0 → Written asks.budget mode text due
+mode_written asks Run text due e is zero = read_written asks.budget Run text (IsDueRun asks text) due (λ d few h z. run_written asks text d few h z) is zero
+mode_written asks Check text due e is zero = cc
+mode_written asks Plain text due e is zero = read_written asks.budget Plain text (IsDuePlain text) due (λ d few h z. plain_written asks.budget text d few h z) is zero
+mode_written asks Gen text due e is zero = cc
 
 read_where_written : (mode : Mode) → writes_outputs mode ≡ true → reads_job mode ≡ true
 read_where_written Run e = refl
@@ -67,7 +67,7 @@ writes_exactly mode (Some asked) source out err Within status writes (text, read
     let same : asked ≡ a = cc in
     let in_mode : asked.mode ≡ mode = ap (λ x. x.mode) same ∙ asks in
     let here : writes_outputs asked.mode ≡ true = ap writes_outputs in_mode ∙ writes in
-    let w = mode_written asked.budget asked.mode text due here f.1 due_zero in
+    let w = mode_written asked asked.mode text due here f.1 due_zero in
     let whole = reads.whole (read_where_written asked.mode here) small w.few in
     let are : AreOutputs a.budget mode w.job w.outputs = subst (λ (m : Mode). AreOutputs a.budget m w.job w.outputs) in_mode (subst (λ (x : Asked). AreOutputs x.budget asked.mode w.job w.outputs) same w.are) in
     (text, reads.told, whole.0, whole.1, w.job, w.stands, w.outputs, are, subst (Took out) w.text_is f.2.1)
@@ -125,7 +125,7 @@ has_causes asked source out err Within status (job, reads, ends) =
 
 usage_due : (asked : Option Asked) (job : List ℕ) (due : Due) → IsDue asked job due → due.status ≡ 2 → (asked ≡ None) × (due ≡ unread)
 usage_due None job due is two = (refl, is)
-usage_due (Some asked) job due is two = absurd (omega (arith, low_due asked.budget asked.mode job due is))
+usage_due (Some asked) job due is two = absurd (omega (arith, low_due asked asked.mode job due is))
 
 unread_job : (asked : Option Asked) → asked ≡ None → Rattle.fin_cli.specs.Due.reads asked ≡ false
 unread_job None e = refl
@@ -141,34 +141,34 @@ uses_exactly asked source out err Within status (job, reads, ends) unasked = (
   unasked,
 )
 
-run_silent : (budget : ℕ) (text : List ℕ) (due : Due) → IsDueRun budget text due → 1 ≤ due.status → due.out ≡ []
-run_silent budget text due (IsDueRun.over job h over) some = refl
-run_silent budget text due (IsDueRun.whole job outputs h is) some = absurd (omega arith)
+run_silent : (asks : Asked) (text : List ℕ) (due : Due) → IsDueRun asks text due → 1 ≤ due.status → due.out ≡ []
+run_silent asks text due (IsDueRun.over job h over) some = refl
+run_silent asks text due (IsDueRun.whole job outputs h is) some = absurd (omega arith)
 
 plain_silent : (text : List ℕ) (due : Due) → IsDuePlain text due → 1 ≤ due.status → due.out ≡ []
 plain_silent text due (IsDuePlain.over job h over) some = refl
 plain_silent text due (IsDuePlain.whole job outputs h is) some = absurd (omega arith)
 
-then_silent : (budget : ℕ) (mode : Mode) (job : List ℕ) (due : Due) → IsDueThen budget mode job due → 1 ≤ due.status → due.out ≡ []
-then_silent budget Run job due h some = run_silent budget job due h some
-then_silent budget Check job due h some = absurd (omega (arith, ap (λ d. d.status) h))
-then_silent budget Plain job due h some = plain_silent job due h some
-then_silent budget Gen job due h some = ap (λ d. d.out) h
+then_silent : (asks : Asked) (mode : Mode) (job : List ℕ) (due : Due) → IsDueThen asks mode job due → 1 ≤ due.status → due.out ≡ []
+then_silent asks Run job due h some = run_silent asks job due h some
+then_silent asks Check job due h some = absurd (omega (arith, ap (λ d. d.status) h))
+then_silent asks Plain job due h some = plain_silent job due h some
+then_silent asks Gen job due h some = ap (λ d. d.out) h
 
-read_silent : (budget : ℕ) (mode : Mode) (job : List ℕ) (due : Due) → IsDueRead job (IsDueThen budget mode job) due → 1 ≤ due.status → due.out ≡ []
-read_silent budget mode job due (IsDueRead.too_long many) some = refl
-read_silent budget mode job due (IsDueRead.breaks rule line few h) some = refl
-read_silent budget mode job due (IsDueRead.passes d few h next) some = then_silent budget mode job due next some
+read_silent : (asks : Asked) (mode : Mode) (job : List ℕ) (due : Due) → IsDueRead job (IsDueThen asks mode job) due → 1 ≤ due.status → due.out ≡ []
+read_silent asks mode job due (IsDueRead.too_long many) some = refl
+read_silent asks mode job due (IsDueRead.breaks rule line few h) some = refl
+read_silent asks mode job due (IsDueRead.passes d few h next) some = then_silent asks mode job due next some
 
-mode_silent : (budget : ℕ) (mode : Mode) (job : List ℕ) (due : Due) → IsDueMode budget mode job due → 1 ≤ due.status → due.out ≡ []
-mode_silent budget Run job due h some = read_silent budget Run job due h some
-mode_silent budget Check job due h some = read_silent budget Check job due h some
-mode_silent budget Plain job due h some = read_silent budget Plain job due h some
-mode_silent budget Gen job due h some = ap (λ d. d.out) h
+mode_silent : (asks : Asked) (mode : Mode) (job : List ℕ) (due : Due) → IsDueMode asks mode job due → 1 ≤ due.status → due.out ≡ []
+mode_silent asks Run job due h some = read_silent asks Run job due h some
+mode_silent asks Check job due h some = read_silent asks Check job due h some
+mode_silent asks Plain job due h some = read_silent asks Plain job due h some
+mode_silent asks Gen job due h some = ap (λ d. d.out) h
 
 silent_due : (asked : Option Asked) (job : List ℕ) (due : Due) → IsDue asked job due → 1 ≤ due.status → due.out ≡ []
 silent_due None job due h some = ap (λ d. d.out) h
-silent_due (Some asked) job due h some = mode_silent asked.budget asked.mode job due h some
+silent_due (Some asked) job due h some = mode_silent asked asked.mode job due h some
 
 pub is_silent : (asked : Option Asked) (source out err : Across) (Within : List ℕ → Type 0) (status : ℕ) → Serves asked source out err Within status → IsSilent out status
 is_silent asked source out err Within status (job, reads, ends) some few = elim (cases_eq status 3) [
@@ -177,3 +177,37 @@ is_silent asked source out err Within status (job, reads, ends) some few = elim 
       let f = ends.finished (omega arith) in
       subst (Took out) (silent_due asked job f.0 f.1 (omega (arith, f.2.0))) f.2.1
 ]
+
+-- ---- the line of the work
+
+run_tells : (asks : Asked) (text : List ℕ) (due : Due) (err : Across) → IsDueRun asks text due → due.status ≡ 0 → Took err due.err → Tells asks Run text err
+run_tells asks text due err (IsDueRun.over job h over) zero took = absurd (omega arith)
+run_tells asks text due err (IsDueRun.whole job outputs h is) zero took = (job, h, took)
+
+plain_tells : (text : List ℕ) (due : Due) (err : Across) → IsDuePlain text due → due.status ≡ 0 → Took err due.err → Took err []
+plain_tells text due err (IsDuePlain.over job h over) zero took = absurd (omega arith)
+plain_tells text due err (IsDuePlain.whole job outputs h is) zero took = took
+
+then_tells : (asks : Asked) (mode : Mode) (text : List ℕ) (due : Due) (err : Across) → IsDueThen asks mode text due → due.status ≡ 0 → Took err due.err → Tells asks mode text err
+then_tells asks Run text due err h zero took = run_tells asks text due err h zero took
+then_tells asks Check text due err h zero took = subst (Took err) (ap (λ d. d.err) h) took
+then_tells asks Plain text due err h zero took = plain_tells text due err h zero took
+then_tells asks Gen text due err h zero took = absurd (omega (arith, ap (λ d. d.status) h))
+
+read_tells : (asks : Asked) (mode : Mode) (text : List ℕ) (due : Due) (err : Across) → IsDueRead text (IsDueThen asks mode text) due → due.status ≡ 0 → Took err due.err → Tells asks mode text err
+read_tells asks mode text due err (IsDueRead.too_long many) zero took = absurd (omega arith)
+read_tells asks mode text due err (IsDueRead.breaks rule line few h) zero took = absurd (omega arith)
+read_tells asks mode text due err (IsDueRead.passes d few a next) zero took = then_tells asks mode text due err next zero took
+
+mode_tells : (asks : Asked) (mode : Mode) (text : List ℕ) (due : Due) (err : Across) → IsDueMode asks mode text due → due.status ≡ 0 → Took err due.err → Tells asks mode text err
+mode_tells asks Run text due err h zero took = read_tells asks Run text due err h zero took
+mode_tells asks Check text due err h zero took = read_tells asks Check text due err h zero took
+mode_tells asks Plain text due err h zero took = read_tells asks Plain text due err h zero took
+mode_tells asks Gen text due err h zero took = absurd (omega (arith, ap (λ d. d.status) h))
+
+pub tells_exactly : (asked : Option Asked) (source out err : Across) (Within : List ℕ → Type 0) (status : ℕ) → Serves asked source out err Within status → TellsExactly asked source err status
+tells_exactly None source out err Within status (text, reads, ends) a is zero = cc
+tells_exactly (Some asked) source out err Within status (text, reads, ends) a is zero =
+    let f = ends.finished (omega arith) in
+    let same : asked ≡ a = cc in
+    (text, reads.told, subst (λ (x : Asked). Tells x x.mode text err) same (mode_tells asked asked.mode text f.0 err f.1 (sym f.2.0 ∙ zero) f.2.2))

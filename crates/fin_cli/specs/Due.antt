@@ -109,8 +109,18 @@ refused rule line = record { status = 1; out = []; err = refusal_text (record { 
 abbrev pub unread : Due
 unread = record { status = 2; out = []; err = usage }
 
-abbrev pub due_outputs : Job → Outputs → Due
-due_outputs job outputs = done (outputs_text job.checked.program.headers outputs.tensors)
+-- the text of each output of a job, and a text for the error output
+abbrev pub due_outputs : Job → Outputs → List ℕ → Due
+due_outputs job outputs told = record { status = 0; out = outputs_text job.checked.program.headers outputs.tensors; err = told }
+
+-- the line of a job's work, where it is asked for
+abbrev pub work_text : Bool → ℕ → List ℕ
+work_text true work = line (codes "work " ++ decimal work)
+work_text false work = []
+
+-- the text of each output of a job, and the line of its work, where that is asked for
+abbrev pub due_run : Asked → Job → Outputs → Due
+due_run asked job outputs = due_outputs job outputs (work_text asked.stats (work_of job.checked job.inputs))
 
 -- the work of a program is within the budget, and these are the canonical storages of what dense evaluation gives
 pub record IsRun (c : Checked) (inputs : List Storage) (budget : ℕ) (outputs : Outputs) : Type 0 where
@@ -118,15 +128,17 @@ pub record IsRun (c : Checked) (inputs : List Storage) (budget : ℕ) (outputs :
   pub stored : AreStored (function_of c inputs) (outputs_from 0 c.program.headers) outputs.tensors
 
 -- what is due for the run of a job that breaks none of the rules before: W1 where its work is over the budget, else the text
--- of each output
-pub data IsDueRun (budget : ℕ) (text : List ℕ) : Due → Type 0 where
-  over : (job : Job) → IsJob text job → budget < work_of job.checked job.inputs → IsDueRun budget text (refused W1 0)
-  whole : (job : Job) (outputs : Outputs) → IsJob text job → IsRun job.checked job.inputs budget outputs → IsDueRun budget text (due_outputs job outputs)
+-- of each output, and the line of the work where that is asked for
+pub data IsDueRun (asked : Asked) (text : List ℕ) : Due → Type 0 where
+  over : (job : Job) → IsJob text job → asked.budget < work_of job.checked job.inputs → IsDueRun asked text (refused W1 0)
+  whole : (job : Job) (outputs : Outputs) → IsJob text job → IsRun job.checked job.inputs asked.budget outputs
+      → IsDueRun asked text (due_run asked job outputs)
 
--- the same for dense evaluation: B2 where it is over its limits
+-- what is due for the dense evaluation of such a job: B2 where it is over its limits, else the text of each output
 pub data IsDuePlain (text : List ℕ) : Due → Type 0 where
   over : (job : Job) → IsJob text job → IsOver job.checked job.inputs → IsDuePlain text (refused B2 0)
-  whole : (job : Job) (outputs : Outputs) → IsJob text job → IsPlain job.checked job.inputs outputs → IsDuePlain text (due_outputs job outputs)
+  whole : (job : Job) (outputs : Outputs) → IsJob text job → IsPlain job.checked job.inputs outputs
+      → IsDuePlain text (due_outputs job outputs [])
 
 -- what is due for a job that is read: its first breach, or else what is due then
 pub data IsDueRead (job : List ℕ) (Next : Due → Type 0) : Due → Type 0 where
@@ -134,12 +146,12 @@ pub data IsDueRead (job : List ℕ) (Next : Due → Type 0) : Due → Type 0 whe
   breaks : (rule : Rule) (line : ℕ) → length job ≤ most → Breaks job rule line → IsDueRead job Next (refused rule line)
   passes : (due : Due) → length job ≤ most → Accepts job → Next due → IsDueRead job Next due
 
--- what is due then, by the budget and the mode
-abbrev pub IsDueThen : ℕ → Mode → List ℕ → Due → Type 0
-IsDueThen budget Run job due = IsDueRun budget job due
-IsDueThen budget Check job due = due ≡ done (line (codes "ok"))
-IsDueThen budget Plain job due = IsDuePlain job due
-IsDueThen budget Gen job due = due ≡ refused S2 0
+-- what is due then in a mode, by what is asked of it
+abbrev pub IsDueThen : Asked → Mode → List ℕ → Due → Type 0
+IsDueThen asked Run job due = IsDueRun asked job due
+IsDueThen asked Check job due = due ≡ done (line (codes "ok"))
+IsDueThen asked Plain job due = IsDuePlain job due
+IsDueThen asked Gen job due = due ≡ refused S2 0
 
 -- a job is read, but for `gen`
 abbrev pub reads_job : Mode → Bool
@@ -147,14 +159,14 @@ reads_job Gen = false
 reads_job mode = true
 
 -- what is due in a mode; jobs aren't generated yet
-abbrev pub IsDueMode : ℕ → Mode → List ℕ → Due → Type 0
-IsDueMode budget Gen job due = due ≡ refused S2 0
-IsDueMode budget mode job due = IsDueRead job (IsDueThen budget mode job) due
+abbrev pub IsDueMode : Asked → Mode → List ℕ → Due → Type 0
+IsDueMode asked Gen job due = due ≡ refused S2 0
+IsDueMode asked mode job due = IsDueRead job (IsDueThen asked mode job) due
 
 -- what is due for what the words ask, with these bytes on the source; words without a reading have the usage line
 abbrev pub IsDue : Option Asked → List ℕ → Due → Type 0
 IsDue None job due = due ≡ unread
-IsDue (Some asked) job due = IsDueMode asked.budget asked.mode job due
+IsDue (Some asked) job due = IsDueMode asked asked.mode job due
 
 abbrev pub reads : Option Asked → Bool
 reads None = false

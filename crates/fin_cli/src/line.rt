@@ -1,7 +1,7 @@
 //! Lines for the error output.
 ghost use Rattle.std.specs.Prelude.{◌≡◌, ◌⊎◌, ◌≤◌, ◌++◌, [], IfOk, string_bytes, take};
 ghost use Rattle.fin_ports.specs.Causes.{Rose};
-ghost use Rattle.fin_cli.specs.Due.{refusal_text, rule_text, usage, read_fault, write_fault, out_of_memory};
+ghost use Rattle.fin_cli.specs.Due.{refusal_text, rule_text, usage, read_fault, work_text, write_fault, out_of_memory};
 ghost use Rattle.fin_cli.specs.Ends.{FailsWithin, Tells, Tries, over};
 
 use fin_base::{Refusal, Rule};
@@ -48,6 +48,16 @@ pub(crate) fn refusal_text(alloc: Global, refusal: Refusal) -> Result<String, Al
     let rule = rule_text(refusal.rule);
     let line = refusal.line;
     format!(in alloc; "refused {rule} line {line}\n")
+}
+
+/// The line of a job's work, where it is asked for.
+pub(crate) fn work_text(alloc: Global, stats: bool, work: u64) -> Result<String, AllocError>
+    ensures { IfOk result (λ text. string_bytes text ≡ work_text stats work) }
+{
+    if stats {
+        return format!(in alloc; "work {work}\n");
+    }
+    Ok(String::new(alloc))
 }
 
 fn rule_text(rule: Rule) -> &'static str

@@ -1,37 +1,37 @@
 //! The modes, over the bytes of a job.
-ghost use Rattle.std.specs.Prelude.{◌≡◌, ◌≢◌, ◌≤◌, ◌^◌, ℕ, List, length};
+ghost use Rattle.std.specs.Prelude.{◌≡◌, ◌≢◌, ◌≤◌, ◌^◌, ℕ, List, length, string_bytes};
 ghost use Rattle.fin_ast.specs.Accepted.{FitProgram, IsAccepted};
 ghost use Rattle.fin_ports.specs.Bytes.{most};
 ghost use Rattle.fin_engine.specs.Run.{StoresAll};
 ghost use Rattle.fin_engine.specs.Verdict.{IsJob};
-ghost use Rattle.fin_cli.specs.Due.{Due, IsDuePlain, IsDueRead, IsDueRun, IsDueThen, due_outputs, refusal_text};
+ghost use Rattle.fin_cli.specs.Due.{Due, IsDuePlain, IsDueRead, IsDueRun, IsDueThen};
+ghost use Rattle.fin_cli.specs.Due.{due_outputs, refusal_text, work_text};
 ghost use Rattle.fin_cli.specs.Ends.{Across, over};
 ghost use Rattle.fin_cli.specs.Stops.{Comes, Fails, Refuses};
 
-use crate::line::refusal_text;
+use crate::line::{refusal_text, work_text};
 use crate::outcome::{Answer, Stop};
 use crate::outputs::write_outputs;
 use fin_base::{Fail, Refusal};
 use fin_dense::plain;
-use fin_engine::{Job, check, run_job_one};
+use fin_engine::{Done, Job, check, run_job_one};
 use fin_ports::{Failed, Sink, put_all};
 use fin_tensor::Outputs;
 use fin_text::WriteFail;
-use fin_words::Mode;
+use fin_words::{Asked, Mode};
 use std::alloc::Global;
 
 /// Does with a job what a mode asks. The text of the job is let go as soon as it is read.
 pub(crate) fn serve_job<O: Sink>(
     alloc: Global,
-    mode: Mode,
-    budget: u64,
+    asked: &Asked,
     text: Vec<u8>,
     out: &mut O,
 ) -> Result<Answer, Stop>
     requires job { length text.items ≤ most }
-    requires mode { mode ≢ Mode.Gen }
-    requires budget { budget ≤ 2 ^ 40 }
-    ensures comes { let Is = IsDueRead text.items (IsDueThen budget mode text.items) in
+    requires mode { asked.now.mode ≢ Mode.Gen }
+    requires budget { asked.now.budget ≤ 2 ^ 40 }
+    ensures comes { let Is = IsDueRead text.items (IsDueThen asked.now asked.now.mode text.items) in
         (source : Across) → Comes source (over O.taken O.faults out.old out.new) Is result }
     ensures later { O.Later out.old out.new }
 {
@@ -41,27 +41,26 @@ pub(crate) fn serve_job<O: Sink>(
         Ok(job) => job,
         Err(fail) => return failed(alloc, fail),
     };
-    serve_accepted(alloc, mode, budget, &job, out)
+    serve_accepted(alloc, asked, &job, out)
 }
 
-// The same for a job that breaks none of the rules.
+// Does so with a job that breaks none of the rules.
 fn serve_accepted<O: Sink>(
     alloc: Global,
-    mode: Mode,
-    budget: u64,
+    asked: &Asked,
     job: &Job,
     out: &mut O,
 ) -> Result<Answer, Stop>
-    requires mode { mode ≢ Mode.Gen }
-    requires budget { budget ≤ 2 ^ 40 }
+    requires mode { asked.now.mode ≢ Mode.Gen }
+    requires budget { asked.now.budget ≤ 2 ^ 40 }
     requires accepted { IsAccepted job.now.checked }
     requires inputs { FitProgram job.now.checked job.now.inputs }
     ensures comes { (source : Across) (text : List ℕ) → IsJob text job.now
-        → Comes source (over O.taken O.faults out.old out.new) (IsDueThen budget mode text) result }
+        → Comes source (over O.taken O.faults out.old out.new) (IsDueThen asked.now asked.now.mode text) result }
     ensures later { O.Later out.old out.new }
 {
-    match mode {
-        Mode::Run => run(alloc, job, budget, out),
+    match asked.mode {
+        Mode::Run => run(alloc, asked, job, out),
         Mode::Plain => evaluate(alloc, job, out),
         Mode::Check => accept(alloc, out),
         Mode::Gen => unreachable!(),
@@ -69,17 +68,37 @@ fn serve_accepted<O: Sink>(
 }
 
 // Runs a job by its loop code and writes its outputs.
-fn run<O: Sink>(alloc: Global, job: &Job, budget: u64, out: &mut O) -> Result<Answer, Stop>
-    requires budget { budget ≤ 2 ^ 40 }
+fn run<O: Sink>(alloc: Global, asked: &Asked, job: &Job, out: &mut O) -> Result<Answer, Stop>
+    requires budget { asked.now.budget ≤ 2 ^ 40 }
     requires accepted { IsAccepted job.now.checked }
     requires inputs { FitProgram job.now.checked job.now.inputs }
     ensures comes { (source : Across) (text : List ℕ) → IsJob text job.now
-        → Comes source (over O.taken O.faults out.old out.new) (IsDueRun budget text) result }
+        → Comes source (over O.taken O.faults out.old out.new) (IsDueRun asked.now text) result }
     ensures later { O.Later out.old out.new }
 {
-    match run_job_one(alloc, job, budget) {
-        Ok(done) => write(alloc, job, &done.outputs, out),
+    match run_job_one(alloc, job, asked.budget) {
+        Ok(done) => write_run(alloc, asked.stats, job, &done, out),
         Err(spent) => failed(alloc, spent),
+    }
+}
+
+// Writes the outputs of a run, with the line of its work where that is asked for.
+fn write_run<O: Sink>(
+    alloc: Global,
+    stats: bool,
+    job: &Job,
+    done: &Done,
+    out: &mut O,
+) -> Result<Answer, Stop>
+    requires stored { StoresAll job.now.checked job.now.inputs done.now.outputs }
+    ensures comes { let told = work_text stats done.now.work in
+        let Is = λ (due : Due). due ≡ due_outputs job.now done.now.outputs told in
+        (source : Across) → Comes source (over O.taken O.faults out.old out.new) Is result }
+    ensures later { O.Later out.old out.new }
+{
+    match work_text(alloc, stats, done.work) {
+        Ok(line) => write(alloc, job, &done.outputs, line, out),
+        Err(_) => Err(Stop::Memory),
     }
 }
 
@@ -90,24 +109,27 @@ fn evaluate<O: Sink>(alloc: Global, job: &Job, out: &mut O) -> Result<Answer, St
     ensures later { O.Later out.old out.new }
 {
     match plain(alloc, &job.checked, job.inputs.as_slice()) {
-        Ok(outputs) => write(alloc, job, &outputs, out),
+        Ok(outputs) => write(alloc, job, &outputs, String::new(alloc), out),
         Err(over) => failed(alloc, over),
     }
 }
 
-// Writes the outputs of a job.
-fn write<O: Sink>(alloc: Global, job: &Job, outputs: &Outputs, out: &mut O) -> Result<Answer, Stop>
+// Writes the outputs of a job, and answers the line for the error output.
+fn write<O: Sink>(
+    alloc: Global,
+    job: &Job,
+    outputs: &Outputs,
+    line: String,
+    out: &mut O,
+) -> Result<Answer, Stop>
     requires stored { StoresAll job.now.checked job.now.inputs outputs.now }
-    ensures comes { let Is = λ (due : Due). due ≡ due_outputs job.now outputs.now in
+    ensures comes { let Is = λ (due : Due). due ≡ due_outputs job.now outputs.now (string_bytes line) in
         (source : Across) → Comes source (over O.taken O.faults out.old out.new) Is result }
     ensures later { O.Later out.old out.new }
 {
     let headers = job.checked.program.headers.as_slice();
     match write_outputs(alloc, headers, outputs.tensors.as_slice(), out) {
-        Ok(()) => Ok(Answer {
-            status: 0,
-            line: String::new(alloc),
-        }),
+        Ok(()) => Ok(Answer { status: 0, line }),
         Err(WriteFail::Fault) => Err(Stop::WriteFault),
         Err(WriteFail::Memory(_)) => Err(Stop::Memory),
     }
@@ -115,8 +137,8 @@ fn write<O: Sink>(alloc: Global, job: &Job, outputs: &Outputs, out: &mut O) -> R
 
 // Says that a job breaks no rule.
 fn accept<O: Sink>(alloc: Global, out: &mut O) -> Result<Answer, Stop>
-    ensures comes { (source : Across) (job : List ℕ)
-        → Comes source (over O.taken O.faults out.old out.new) (IsDueThen 0 Mode.Check job) result }
+    ensures comes { (asked : Asked) (source : Across) (job : List ℕ)
+        → Comes source (over O.taken O.faults out.old out.new) (IsDueThen asked Mode.Check job) result }
     ensures later { O.Later out.old out.new }
 {
     match put_all(out, b"ok\n") {

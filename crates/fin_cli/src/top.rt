@@ -4,8 +4,8 @@ ghost use Rattle.fin_ports.specs.Bytes.{most};
 ghost use Rattle.fin_words.specs.Reading.{asks_workers, reading};
 ghost use Rattle.fin_cli.specs.Due.{IsDueMode, IsDueRead, IsDueThen, reads_job};
 ghost use Rattle.fin_cli.specs.Ends.{Across, Ends, FailsWithin, Reads, Serves, over};
-ghost use Rattle.fin_cli.specs.Promises.{AnswersWhole, Completes, HasCauses, IsSilent, IsUnasked, Promises, UsesExactly};
-ghost use Rattle.fin_cli.specs.Promises.{WritesExactly};
+ghost use Rattle.fin_cli.specs.Promises.{AnswersWhole, Completes, HasCauses, IsSilent, IsUnasked, Promises};
+ghost use Rattle.fin_cli.specs.Promises.{TellsExactly, UsesExactly, WritesExactly};
 ghost use Rattle.fin_cli.specs.Stops.{Comes};
 
 use crate::line::{OUT_OF_MEMORY, READ_FAULT, USAGE, WRITE_FAULT, tell, try_to_tell};
@@ -44,6 +44,8 @@ pub fn finch<R: Threads + Wait + Sync, S: Source, O: Sink, E: Sink>(
         (over S.left S.faults source.old source.new) (over O.taken O.faults out.old out.new)
         (over E.taken E.faults err.old err.new) result }
     ensures silent { IsSilent (over O.taken O.faults out.old out.new) result }
+    ensures telling { TellsExactly (reading (map string_bytes words.now))
+        (over S.left S.faults source.old source.new) (over E.taken E.faults err.old err.new) result }
     ensures serves { Serves (reading (map string_bytes words.now))
         (over S.left S.faults source.old source.new) (over O.taken O.faults out.old out.new)
         (over E.taken E.faults err.old err.new) (FailsWithin E.taken E.faults E.Later err.old err.new)
@@ -89,6 +91,8 @@ pub fn finch_one<S: Source, O: Sink, E: Sink>(
         (over S.left S.faults source.old source.new) (over O.taken O.faults out.old out.new)
         (over E.taken E.faults err.old err.new) result }
     ensures silent { IsSilent (over O.taken O.faults out.old out.new) result }
+    ensures telling { TellsExactly (reading (map string_bytes words.now))
+        (over S.left S.faults source.old source.new) (over E.taken E.faults err.old err.new) result }
     ensures serves { Serves (reading (map string_bytes words.now))
         (over S.left S.faults source.old source.new) (over O.taken O.faults out.old out.new)
         (over E.taken E.faults err.old err.new) (FailsWithin E.taken E.faults E.Later err.old err.new)
@@ -148,12 +152,12 @@ fn serve<S: Source, O: Sink, E: Sink>(
 
 // The status of an outcome, with its line on the error output.
 fn report<E: Sink>(outcome: Result<Answer, Stop>, err: &mut E) -> u8
-    ensures ends { (source out : Across) (budget : ℕ) (mode : Mode) (job : List ℕ)
-        → Comes source out (IsDueMode budget mode job) outcome
+    ensures ends { (source out : Across) (asked : Asked) (mode : Mode) (job : List ℕ)
+        → Comes source out (IsDueMode asked mode job) outcome
         → Ends source out (over E.taken E.faults err.old err.new)
-        (FailsWithin E.taken E.faults E.Later err.old err.new) (IsDueMode budget mode job) result }
-    ensures finished { (source out : Across) (budget : ℕ) (mode : Mode) (job : List ℕ)
-        → Comes source out (IsDueMode budget mode job) outcome → result ≤ 2 → IsOk outcome }
+        (FailsWithin E.taken E.faults E.Later err.old err.new) (IsDueMode asked mode job) result }
+    ensures finished { (source out : Across) (asked : Asked) (mode : Mode) (job : List ℕ)
+        → Comes source out (IsDueMode asked mode job) outcome → result ≤ 2 → IsOk outcome }
     ensures later { E.Later err.old err.new }
 {
     match outcome {
@@ -164,10 +168,10 @@ fn report<E: Sink>(outcome: Result<Answer, Stop>, err: &mut E) -> u8
 
 // The same where there is no answer.
 fn report_stop<E: Sink>(stop: Stop, err: &mut E) -> u8
-    ensures ends { (source out : Across) (budget : ℕ) (mode : Mode) (job : List ℕ)
-        → Comes source out (IsDueMode budget mode job) (Err stop)
+    ensures ends { (source out : Across) (asked : Asked) (mode : Mode) (job : List ℕ)
+        → Comes source out (IsDueMode asked mode job) (Err stop)
         → Ends source out (over E.taken E.faults err.old err.new)
-        (FailsWithin E.taken E.faults E.Later err.old err.new) (IsDueMode budget mode job) result }
+        (FailsWithin E.taken E.faults E.Later err.old err.new) (IsDueMode asked mode job) result }
     ensures unfinished { 3 ≤ result }
     ensures later { E.Later err.old err.new }
 {
@@ -194,7 +198,7 @@ fn outcome<S: Source, O: Sink>(
     requires budget { asked.now.budget ≤ 2 ^ 40 }
     ensures comes { let from = over S.left S.faults source.old source.new in
         (job : List ℕ) × Reads from (reads_job asked.now.mode) job (IsOk result)
-        × Comes from (over O.taken O.faults out.old out.new) (IsDueMode asked.now.budget asked.now.mode job) result }
+        × Comes from (over O.taken O.faults out.old out.new) (IsDueMode asked.now asked.now.mode job) result }
     ensures later_source { S.Later source.old source.new }
     ensures later_out { O.Later out.old out.new }
 {
@@ -206,28 +210,28 @@ fn outcome<S: Source, O: Sink>(
                 line: 0,
             },
         ),
-        mode => read_and_serve(alloc, mode, asked.budget, source, out),
+        _ => read_and_serve(alloc, asked, source, out),
     }
 }
 
 // Reads the job, and does with it what the mode asks.
 fn read_and_serve<S: Source, O: Sink>(
     alloc: Global,
-    mode: Mode,
-    budget: u64,
+    asked: &Asked,
     source: &mut S,
     out: &mut O,
 ) -> Result<Answer, Stop>
-    requires mode { mode ≢ Mode.Gen }
-    requires budget { budget ≤ 2 ^ 40 }
+    requires mode { asked.now.mode ≢ Mode.Gen }
+    requires budget { asked.now.budget ≤ 2 ^ 40 }
     ensures comes { let from = over S.left S.faults source.old source.new in
         (job : List ℕ) × Reads from true job (IsOk result)
-        × Comes from (over O.taken O.faults out.old out.new) (IsDueRead job (IsDueThen budget mode job)) result }
+        × Comes from (over O.taken O.faults out.old out.new)
+        (IsDueRead job (IsDueThen asked.now asked.now.mode job)) result }
     ensures later_source { S.Later source.old source.new }
     ensures later_out { O.Later out.old out.new }
 {
     match read_job(alloc, source) {
-        Ok(job) => serve_job(alloc, mode, budget, job, out),
+        Ok(job) => serve_job(alloc, asked, job, out),
         Err(JobRead::TooLong) => refused(
             alloc,
             Refusal {

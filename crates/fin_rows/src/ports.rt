@@ -15,7 +15,7 @@ const EMPTY_TEXT: &[u8] = b"tensor y\nformat dense element\nfill 0\nshape 0\nval
 const USAGE: &[u8] =
     b"usage: finch run,check,plain,gen [--workers N] [--budget N] [--stats] [--seed N] [--size N]\n";
 
-const CASES: [Case; 18] = [
+const CASES: [Case; 19] = [
     RUN,
     Case { most: 1, ..RUN },
     Case {
@@ -95,6 +95,14 @@ const CASES: [Case; 18] = [
         status: 4,
         err: b"refused",
         ..REFUSED
+    },
+    // the line of the work fails behind the whole output
+    Case {
+        words: &["finch", "run", "--stats"],
+        err_fails: &[0],
+        status: 4,
+        err: b"write fault\n",
+        ..RUN
     },
     Case {
         words: &["finch"],

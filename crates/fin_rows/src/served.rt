@@ -4,20 +4,28 @@ use crate::examples::EXAMPLES;
 use crate::rows::{ENDLESS, LARGE, MASK, MASK_TEXT, ROWS, TIMES, TIMES_TEXT};
 use std::test::Fail;
 
-const MODES: [&[&str]; 2] = [&["finch", "run"], &["finch", "plain"]];
+const STATS: &[&str] = &["finch", "run", "--stats"];
 
+const PLAIN: &[&str] = &["finch", "plain", "--stats"];
+
+// A run tells its work where that is asked for; evaluation has none.
 #[test]
 fn each_job_is_served(rt: HostRuntime) -> Result<(), Fail> {
     for row in ROWS.iter().chain(&EXAMPLES) {
-        for words in MODES {
-            let case = Case {
-                words,
-                job: row.job,
-                out: row.out,
-                ..RUN
-            };
-            ends_as(&rt, rt.alloc(), &case)?;
-        }
+        let run = Case {
+            words: STATS,
+            job: row.job,
+            out: row.out,
+            err: row.told,
+            ..RUN
+        };
+        ends_as(&rt, rt.alloc(), &run)?;
+        let plain = Case {
+            words: PLAIN,
+            err: b"",
+            ..run
+        };
+        ends_as(&rt, rt.alloc(), &plain)?;
     }
     Ok(())
 }
@@ -27,7 +35,7 @@ fn each_job_is_served(rt: HostRuntime) -> Result<(), Fail> {
 fn limits_are_kept(rt: HostRuntime) -> Result<(), Fail> {
     for job in [ENDLESS, LARGE] {
         let case = Case {
-            words: MODES[1],
+            words: PLAIN,
             job,
             err: b"refused B2 line 0\n",
             ..REFUSED

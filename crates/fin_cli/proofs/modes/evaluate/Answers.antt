@@ -1,8 +1,10 @@
-use Rattle.std.proofs.Common.{refl, subst, List}
+use Rattle.std.proofs.Common.{◌≡◌, ℕ, refl, subst, List, []}
 use Rattle.fin_tensor.specs.declared.storage.Storage.{Storage}
 use Rattle.fin_ast.specs.Dense.{function_of}
 use Rattle.fin_dense.specs.Plain.{AreStored, outputs_from}
-use Rattle.fin_cli.specs.Due.{IsDuePlain, due_outputs}
+use Rattle.fin_cli.specs.Due.{Due, IsDuePlain, due_outputs}
+use Rattle.fin_cli.specs.Ends.{over}
+use Rattle.fin_cli.specs.Stops.{Comes}
 use Rattle.fin_cli.proofs.Comings.{comes_as, comes_over, plain_is}
 use Rattle.fin_cli.proofs.modes.evaluate.Goals as goal
 
@@ -13,7 +15,10 @@ write-requires g c = record {
 
 pub returns-in-Ok-clause-comes : goal.returns-in-Ok-clause-comes
 returns-in-Ok-clause-comes g c = λ source text is.
-    comes_as (due_outputs c.args.job.now c.in-Ok.outputs) (IsDuePlain text) source _ c.write.result (plain_is text c.args.job.now c.as_slice.result.now c.in-Ok.outputs is c.as_slice.ensures c.in-Ok.ensures.plains) (c.write.ensures.comes source)
+    let job = c.args.job.now in let outputs = c.in-Ok.outputs in
+    let out = over g.O.Sink.taken g.O.Sink.faults c.args.out.now c.write.new.out in
+    let came = subst (λ (told : List ℕ). Comes source out (λ (d : Due). d ≡ due_outputs job outputs told) c.write.result) c.new.ensures.bytes (c.write.ensures.comes source) in
+    comes_as (due_outputs job outputs []) (IsDuePlain text) source out c.write.result (plain_is text job c.as_slice.result.now outputs is c.as_slice.ensures c.in-Ok.ensures.plains) came
 
 pub returns-in-Err-clause-comes : goal.returns-in-Err-clause-comes
 returns-in-Err-clause-comes g c = λ source text is.

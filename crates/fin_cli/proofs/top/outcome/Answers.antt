@@ -16,8 +16,8 @@ returns-in-Gen-clause-comes g c =
     let job = job_of left [] in (
       job,
       subst (λ (b : Bool). Reads source b job (IsOk c.refused.result)) (sym (ap reads_job c.in-Gen.is)) (no_job source (IsOk c.refused.result) refl),
-      refuses_comes (record { rule = S2; line = 0 }) c.refused.result source _ (IsDueMode c.args.asked.now.budget mode job) c.refused.ensures refl
-          (subst (λ (m : Mode). IsDueMode c.args.asked.now.budget m job _) (sym c.in-Gen.is) refl),
+      refuses_comes (record { rule = S2; line = 0 }) c.refused.result source _ (IsDueMode c.args.asked.now mode job) c.refused.ensures refl
+          (subst (λ (m : Mode). IsDueMode c.args.asked.now m job _) (sym c.in-Gen.is) refl),
     )
 
 pub returns-in_default-clause-comes : goal.returns-in_default-clause-comes
@@ -25,4 +25,4 @@ returns-in_default-clause-comes g c =
     let source = over g.S.Source.left g.S.Source.faults c.args.source.now c.read_and_serve.new.source in
     let out = over g.O.Sink.taken g.O.Sink.faults c.args.out.now c.read_and_serve.new.out in
     let came = c.read_and_serve.ensures.comes in
-    comes_of_mode c.args.asked.now.budget c.args.asked.now.mode source out came.0 c.read_and_serve.result c.in_default.not-Gen came.1 came.2
+    comes_of_mode c.args.asked.now c.args.asked.now.mode source out came.0 c.read_and_serve.result c.in_default.not-Gen came.1 came.2

@@ -20,7 +20,7 @@ returns-in-Ok-clause-comes g c =
     let is = sym (all_job (left old) (left new) bytes took.0 took.1) in (
       job_of (left old) bytes,
       whole_job source bytes _ took.0 took.1 took.2,
-      subst (λ job. Comes source out (IsDueRead job (IsDueThen c.args.budget c.args.mode job)) c.serve_job.result) is (c.serve_job.ensures.comes source),
+      subst (λ job. Comes source out (IsDueRead job (IsDueThen c.args.asked.now c.args.asked.now.mode job)) c.serve_job.result) is (c.serve_job.ensures.comes source),
     )
 
 pub returns-in-Err-TooLong-clause-comes : goal.returns-in-Err-TooLong-clause-comes
@@ -34,7 +34,7 @@ returns-in-Err-TooLong-clause-comes g c =
     let many : most < length job = omega (arith, length_job (left old) (left new) bytes took.1, took.2) in (
       job,
       long_job source bytes _ took.1 took.2,
-      refuses_comes (record { rule = J1; line = 0 }) c.refused.result source _ (IsDueRead job (IsDueThen c.args.budget c.args.mode job)) c.refused.ensures refl (IsDueRead.too_long many),
+      refuses_comes (record { rule = J1; line = 0 }) c.refused.result source _ (IsDueRead job (IsDueThen c.args.asked.now c.args.asked.now.mode job)) c.refused.ensures refl (IsDueRead.too_long many),
     )
 
 pub returns-in-Err-Fault-clause-comes : goal.returns-in-Err-Fault-clause-comes

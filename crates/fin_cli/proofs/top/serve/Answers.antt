@@ -24,8 +24,8 @@ returns-in-Ok-Some-clause-serves g c =
     let job = came.0 in (
       job,
       subst (λ (o : Option Asked). Reads source (reads o) job (c.report.result ≤ 2)) is
-          (finished_by source (reads (Some asked)) job (IsOk c.outcome.result) (c.report.result ≤ 2) (c.report.ensures.finished source out asked.budget asked.mode job came.2) came.1),
-      subst (λ (o : Option Asked). Ends source out err within (IsDue o job) c.report.result) is (c.report.ensures.ends source out asked.budget asked.mode job came.2),
+          (finished_by source (reads (Some asked)) job (IsOk c.outcome.result) (c.report.result ≤ 2) (c.report.ensures.finished source out asked asked.mode job came.2) came.1),
+      subst (λ (o : Option Asked). Ends source out err within (IsDue o job) c.report.result) is (c.report.ensures.ends source out asked asked.mode job came.2),
     )
 
 pub returns-in-Ok-None-clause-serves : goal.returns-in-Ok-None-clause-serves

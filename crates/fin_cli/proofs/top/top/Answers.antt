@@ -4,7 +4,7 @@ use Rattle.fin_words.specs.Reading.{reading}
 use Rattle.fin_words.specs.declared.mode.Mode.TheVariants.{Run, Plain}
 use Rattle.fin_cli.specs.Ends.{FailsWithin, over}
 use Rattle.fin_cli.proofs.Answered.{answers_whole}
-use Rattle.fin_cli.proofs.Promised.{completes, has_causes, is_silent, uses_exactly, writes_exactly}
+use Rattle.fin_cli.proofs.Promised.{completes, has_causes, is_silent, tells_exactly, uses_exactly, writes_exactly}
 use Rattle.fin_cli.proofs.top.top.Goals as goal
 
 pub returns-clause-promises : goal.returns-clause-promises
@@ -22,5 +22,6 @@ returns-clause-promises g c =
       usage = uses_exactly asked source out err within c.serve.result serves c.serve.ensures.unasked;
       causes = has_causes asked source out err within c.serve.result serves;
       silent = is_silent asked source out err within c.serve.result serves;
+      telling = tells_exactly asked source out err within c.serve.result serves;
       serves = serves;
     }
