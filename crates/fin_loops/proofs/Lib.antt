@@ -28,6 +28,9 @@ pub mod Empty
 pub mod FixedTurns
 pub mod FixedFolds
 pub mod Fixed
+pub mod Unnamed
+pub mod Only
+pub mod AtOnce
 pub mod Closing
 pub mod FreshThere
 pub mod Chunked

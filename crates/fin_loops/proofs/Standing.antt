@@ -95,7 +95,7 @@ module _ (l : Loop) (n : point.Nest) (room : ℕ) (inputs : List Storage) (sc : 
     abbrev pub outside : Place
     outside = record { facts = facts_of vars (all_bound sc); steady = whole.steady; binds = whole.binds; next = n.next }
 
-    outside_stands : StandsIn l.checked sc vars outside
+    pub outside_stands : StandsIn l.checked sc vars outside
     outside_stands = record {
       headers = good.headers;
       within = λ x e. (pin_kept x e).below;

@@ -11,6 +11,8 @@ pub mod Sourced
 pub mod Sources
 pub mod Empty
 pub mod Fixed
+pub mod Only
+pub mod AtOnce
 pub mod Chunked
 pub mod Facts
 pub mod FactsPoints

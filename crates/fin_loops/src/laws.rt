@@ -1,4 +1,5 @@
 //! What is proved of the code of loops.
+ghost use Rattle.fin_loops.specs.AtOnce.{OnceMeans};
 ghost use Rattle.fin_loops.specs.Chunked.{ChunksEnter};
 ghost use Rattle.fin_loops.specs.Chunks.{LoopsInChunks, OpenedStand};
 ghost use Rattle.fin_loops.specs.Empty.{EmptyLoopsMean};
@@ -8,6 +9,7 @@ ghost use Rattle.fin_loops.specs.FactsPoints.{PointsAreTold};
 ghost use Rattle.fin_loops.specs.Fixed.{FixedMeans};
 ghost use Rattle.fin_loops.specs.Keeping.{NestsAreSeparate};
 ghost use Rattle.fin_loops.specs.Naming.{TopsAreNamed};
+ghost use Rattle.fin_loops.specs.Only.{OnlyCompose};
 ghost use Rattle.fin_loops.specs.Parallel.{ParallelLoopsMean};
 ghost use Rattle.fin_loops.specs.Points.{PointsMean, LoopsGoOn};
 ghost use Rattle.fin_loops.specs.Sourced.{EntriesEnter};
@@ -110,6 +112,17 @@ pub fn entries_enter()
 /// of 2 where there is a coordinate, means the nest along which that update is left.
 pub fn fixed_means()
     ensures { FixedMeans }
+{}
+
+/// What is all that is left of a part of statements, one update, is all that is left of the whole, where no let around it
+/// binds what it names.
+pub fn only_compose()
+    ensures { OnlyCompose }
+{}
+
+/// Where the update that is left along a nest names nothing of its loop, its code at once means the nest.
+pub fn once_means()
+    ensures { OnceMeans }
 {}
 
 /// The codes of a parallel loop's entry enter it chunk by chunk wherever it may stand: they leave the place as it was,
