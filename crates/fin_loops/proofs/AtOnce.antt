@@ -112,7 +112,7 @@ module _ (l : Loop) (n : point.Nest) (flat : AllFlat (all_looplets n)) (settled 
     ready = record { live = fits.live; locals = fits.locals; facts = hold m numbers }
 
     -- behind the steps of the value
-    prepared : Prepared layout nest (prelude v) m
+    abbrev prepared : Prepared layout nest (prelude v) m
     prepared = record {
       locals = stepped (seen m) v.steps m.locals;
       is = steps_go layout v.steps m fits.live;
@@ -170,7 +170,7 @@ module _ (l : Loop) (n : point.Nest) (flat : AllFlat (all_looplets n)) (settled 
       (updates_are_at_once start layout n (behind_of l w sc vars) shape change flat apart (statements_are_updates layout start nest shape change u.at u.value vars is_statement)).0
 
 pub once_means : OnceMeans
-once_means l n code u var flat settled fixed fewer only free plain is enough means s layout b stands fine =
+once_means l n code u var flat settled fixed fewer only free plain is enough s layout b stands fine =
     subst (λ (c : Code). Meant layout (runs s) (nest_with b (course_of n)) c) (sym is)
     (in_all l (λ s' k b'. Separate (nest_with b' (course_of n)) → code.room ≤ k.locals → Meant k (runs s') (nest_with b' (course_of n)) (once_code_of (heads_in l.checked) n u))
     (λ room inputs sc vars good apart le.

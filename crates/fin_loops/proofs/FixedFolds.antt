@@ -80,7 +80,7 @@ module _ (l : Loop) (n : point.Nest) (w : World) (vars : Numbers) (flat : AllFla
 
   module _ (ts : Store) (ls : List ℤ) where
     -- what the body does at a coordinate
-    seen_is : (end i : ℤ) (b : Bool) (r : Run) → seen_turn x (seens (views ts ls (all_looplets n) end i)) b i r ≡ costing (first_share b) r (body_at i r)
+    pub seen_is : (end i : ℤ) (b : Bool) (r : Run) → seen_turn x (seens (views ts ls (all_looplets n) end i)) b i r ≡ costing (first_share b) r (body_at i r)
     seen_is end i b r =
         let ss : List Seen = seens (views ts ls (all_looplets n) end i) in
         let inner : Numbers = slice_set vars l.var i in

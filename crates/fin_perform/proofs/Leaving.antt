@@ -90,25 +90,25 @@ module _ (m : Marks) where
   abbrev kind_at : Left → Kind
   kind_at f = (f m).kind
 
-  later_one : (x : Stmt) (xs : List Stmt) (h : Here) → Are m (x ∷ xs) h → is_nothing x h m ≡ true → Are m xs (past_stmt x h)
+  pub later_one : (x : Stmt) (xs : List Stmt) (h : Here) → Are m (x ∷ xs) h → is_nothing x h m ≡ true → Are m xs (past_stmt x h)
   later_one x xs h one e = later_kind (rest_of x h m).kind (left_of_all xs (past_stmt x h) (Some m)).kind one (rest_agrees x h m ∙ e)
 
-  alone_one : (x : Stmt) (xs : List Stmt) (h : Here) → Are m (x ∷ xs) h → is_nothing x h m ≡ false → Is m x h × (are_nothing xs (past_stmt x h) m ≡ true)
+  pub alone_one : (x : Stmt) (xs : List Stmt) (h : Here) → Are m (x ∷ xs) h → is_nothing x h m ≡ false → Is m x h × (are_nothing xs (past_stmt x h) m ≡ true)
   alone_one x xs h one e =
       let q = alone_kind (rest_of x h m).kind (left_of_all xs (past_stmt x h) (Some m)).kind one (rest_agrees x h m ∙ e) in
       (q.0, sym (rests_agree xs (past_stmt x h) m) ∙ q.1)
 
   -- something is left of it
-  some_left : (x : Stmt) (h : Here) → Is m x h → is_nothing x h m ≡ false
+  pub some_left : (x : Stmt) (h : Here) → Is m x h → is_nothing x h m ≡ false
   some_left x h one = sym (rest_agrees x h m) ∙ ap is_none_kind one
 
-  block_one : (xs : List Stmt) (line last : ℕ) (h : Here) → Is m (s.Block xs line last) h → Are m xs h
+  pub block_one : (xs : List Stmt) (line last : ℕ) (h : Here) → Is m (s.Block xs line last) h → Are m xs h
   block_one xs line last h one = sym (ap kind_at (at_block Left rest_step xs line last h)) ∙ one
 
-  cond_one : (test : Expr) (xs : List Stmt) (line last : ℕ) (h : Here) → Is m (s.Cond test xs line last) h → ((n : ℤ) × (test_at test h (Some m) ≡ Some n)) × Are m xs (behind_test test h)
+  pub cond_one : (test : Expr) (xs : List Stmt) (line last : ℕ) (h : Here) → Is m (s.Cond test xs line last) h → ((n : ℤ) × (test_at test h (Some m) ≡ Some n)) × Are m xs (behind_test test h)
   cond_one test xs line last h one = chosen_kind (test_rest test h m) (expr_rest test h.read m) _ _ (sym (ap kind_at (at_cond Left rest_step test xs line last h)) ∙ one)
 
-  bind_one : (var : ℕ) (value : Expr) (xs : List Stmt) (line last : ℕ) (h : Here) → Is m (s.Bind var value xs line last) h
+  pub bind_one : (var : ℕ) (value : Expr) (xs : List Stmt) (line last : ℕ) (h : Here) → Is m (s.Bind var value xs line last) h
       → (n : ℤ) × ((literal_at value h (Some m) ≡ Some n) × Are (binding m var (Some n)) xs (behind value h))
   bind_one var value xs line last h one =
       let_kind (expr_rest value h.read m).literal (expr_rest value h.read m) (λ o. left_of_all xs (behind value h) (Some (binding m var o)))

@@ -2,6 +2,7 @@
 use Rattle.std.proofs.Common.{◌≡◌, ℕ, Bool, true, false, List, [], ◌∷◌, ◌++◌, map, Some, refl, sym, ap, subst, ◌∙◌, arith, pos}
 use Rattle.std.specs.Prelude.{not}
 use Rattle.fin_base.specs.declared.terms.Op.TheVariants as op
+use Rattle.fin_ast.specs.declared.tree.Stmt.{Stmt}
 use Rattle.fin_ast.specs.Bindings.{bindings_of_all}
 use Rattle.fin_ir.specs.declared.code.Code.{Code}
 use Rattle.fin_ir.specs.declared.code.Code.TheVariants.{Seq, When, ForLoop, Charge}
@@ -11,6 +12,7 @@ use Rattle.fin_ir.proofs.Nodes.{of_when, of_for_loop, of_charge}
 use Rattle.fin_nest.specs.Sparing.{Staying, all_spare, spare_step, spares}
 use Rattle.fin_read.specs.Values.{Heads}
 use Rattle.fin_simp.specs.Left.{Marks}
+use Rattle.fin_simp.specs.Numbered.{Here}
 use Rattle.fin_simp.specs.Rest.{Kind, OneUpdate}
 use Rattle.fin_simp.specs.Rest.{Nothing, Other}
 use Rattle.fin_simp.specs.Wording.{KnowsWords}
@@ -67,6 +69,12 @@ undeclared_fixed t n cs e =
 
 -- ---- the leaf
 
+-- codes that are appended where the nest stands
+pub appends_there : (heads : Heads) (need : ℕ) (old new : List Code) (xs : List Stmt) (m : Marks) (next next' : ℕ) (h h' : Here) → next' ≡ next → h' ≡ h
+    → Appends heads next' need old new (once_deed xs h' (Some m)) → Appends heads next need old new (once_deed xs h (Some m))
+appends_there heads need old new xs m next next' h h' from here a =
+    subst (λ (j : Here). Appends heads next need old new (once_deed xs j (Some m))) here (subst (λ (k : ℕ). Appends heads k need old new (once_deed xs h' (Some m))) from a)
+
 one_kind : (k : Kind) → is_one_update k ≡ true → k ≡ OneUpdate
 one_kind Nothing e = cc
 one_kind OneUpdate e = refl
@@ -82,7 +90,7 @@ module _ (s : Site) (ds : List Bool) (n : Nest) (site : IsSite s) (comes : Comes
   known : IsKnown (loop_of s) s.around ds n
   known = (points_are_told (loop_of s) s.around ds n comes.knows).flat fixed.flat
 
-  there : told ≡ marks_at_point (loop_of s) n
+  pub there : told ≡ marks_at_point (loop_of s) n
   there = is ∙ known.marks
 
   words : KnowsWords (marks_at_point (loop_of s) n)

@@ -12,6 +12,9 @@ pub mod NamedLoops
 pub mod Changing
 pub mod Points
 pub mod FixedLeaf
+pub mod OnceLeaf
+pub mod Naming
+pub mod OnlyLeft
 pub mod Filled
 pub mod Results
 pub mod Inside

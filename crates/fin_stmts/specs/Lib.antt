@@ -5,4 +5,5 @@ pub mod Entrances
 pub mod Parts
 pub mod Varying
 pub mod Leaves
+pub mod Updates
 pub mod Programs

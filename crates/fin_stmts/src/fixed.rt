@@ -85,7 +85,8 @@ fn has_var(vars: &[u32], var: u32) -> bool
     false
 }
 
-fn name_var(indices: &[Index], var: u32) -> bool
+/// Whether one of some indices names a variable.
+pub(crate) fn name_var(indices: &[Index], var: u32) -> bool
     ensures { result ≡ list_any (work.names_var var) indices.now }
 {
     for index in indices {

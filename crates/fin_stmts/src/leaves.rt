@@ -7,8 +7,11 @@ ghost use Rattle.fin_loops.specs.Points.{point_code};
 ghost use Rattle.fin_descend.specs.declared.flattening.Leaf.TheVariants.{Fixed};
 ghost use Rattle.fin_stmts.specs.Leaves.{LeafLowers};
 ghost use Rattle.fin_stmts.specs.Sites.{Comes, IsFixed, IsSite, loop_of};
+ghost use Rattle.fin_stmts.specs.Updates.{IsToldAt};
 
+use crate::at_once::once_leaf;
 use crate::nests::{NestAsks, heads_tell};
+use crate::only::update_at_once;
 use crate::place::{Codes, heads_of};
 use fin_base::Op;
 use fin_descend::{Flat, Lowered, greater};
@@ -45,7 +48,7 @@ pub(crate) fn at_point(alloc: Global, nest: &Nest, body: Codes) -> Result<Lowere
     })
 }
 
-/// The one update that is left along a nest, at each coordinate, behind a charge of 2 where there is one.
+/// The one update that is left along a nest: at once where it names nothing of the loop, and else at each coordinate.
 pub(crate) fn fixed_leaf(
     alloc: Global,
     asks: &NestAsks<'_>,
@@ -67,9 +70,29 @@ pub(crate) fn fixed_leaf(
         test: asks.site.place.test,
         next: nest.next,
     };
+    let one = &asks.site.one;
+    match update_at_once(alloc, one.var, one.body, &site)? {
+        Some(update) => once_leaf(alloc, asks, nest, &update),
+        None => loop_leaf(alloc, asks, nest, &site),
+    }
+}
+
+// At each coordinate, behind a charge of 2 where there is one.
+fn loop_leaf(
+    alloc: Global,
+    asks: &NestAsks<'_>,
+    nest: &Nest,
+    at: &Once<'_>,
+) -> Result<Lowered, AllocError>
+    requires site { IsSite asks.now.site }
+    requires comes { Comes asks.now.site asks.now.drives.now nest.now }
+    requires fixed { IsFixed asks.now.site nest.now }
+    requires told { IsToldAt asks.now nest.now at.now }
+    ensures { IfOk result (LeafLowers (loop_of asks.now.site) (Fixed nest.now)) }
+{
     let heads = heads_of(asks.site.checked);
     let mut turn = Items::new(alloc);
-    let room = push_once(alloc, &mut turn, &heads, asks.site.one.body, &site)?;
+    let room = push_once(alloc, &mut turn, &heads, asks.site.one.body, at)?;
     let code = paid_loop(alloc, nest, turn)?;
     Ok(Lowered { code, room })
 }
