@@ -176,3 +176,12 @@ pub(crate) const ENDLESS: &[u8] =
 /// An output with 65,537 blocks of 2^24 values, made by as many turns.
 pub(crate) const LARGE: &[u8] =
     b"out b band dense element shape 1099511627776 16777216\nb .= 0\nfor i in 0..65537 { b[i,0] += 1 }\n%%\n";
+
+/// The same update at 2^40 coordinates.
+pub(crate) const SAME: &[u8] =
+    b"out s element\ns .= 0\nfor i in 0..1099511627776 { s[] += 3 }\n%%\n";
+
+pub(crate) const SAME_TEXT: &[u8] =
+    b"tensor s\nformat element\nfill 0\nshape\nval 3298534883328\nend\n";
+
+pub(crate) const SAME_WORK: &[u8] = b"work 7\n";

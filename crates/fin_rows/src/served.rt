@@ -1,7 +1,9 @@
 //! Jobs that run, in both modes that run them, and their budgets.
 use crate::case::{Case, REFUSED, RUN, ends_as};
 use crate::examples::EXAMPLES;
-use crate::rows::{ENDLESS, LARGE, MASK, MASK_TEXT, ROWS, TIMES, TIMES_TEXT};
+use crate::rows::{
+    ENDLESS, LARGE, MASK, MASK_TEXT, ROWS, SAME, SAME_TEXT, SAME_WORK, TIMES, TIMES_TEXT,
+};
 use std::test::Fail;
 
 const STATS: &[&str] = &["finch", "run", "--stats"];
@@ -28,6 +30,19 @@ fn each_job_is_served(rt: HostRuntime) -> Result<(), Fail> {
         ends_as(&rt, rt.alloc(), &plain)?;
     }
     Ok(())
+}
+
+// An update that names nothing of its loop is done once for all 2^40 coordinates.
+#[test]
+fn updates_are_done_at_once(rt: HostRuntime) -> Result<(), Fail> {
+    let case = Case {
+        words: STATS,
+        job: SAME,
+        out: SAME_TEXT,
+        err: SAME_WORK,
+        ..RUN
+    };
+    ends_as(&rt, rt.alloc(), &case)
 }
 
 // Evaluation stops at a turn too many, and an output that is too large isn't stored.
