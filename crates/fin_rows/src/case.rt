@@ -13,6 +13,11 @@ pub(crate) const PRODUCT: &[u8] =
 pub(crate) const PRODUCT_TEXT: &[u8] =
     b"tensor y\nformat dense element\nfill 0\nshape 3\nval 4 10 18\nend\n";
 
+pub(crate) const PRODUCT_WORK: &[u8] = b"work 19\n";
+
+/// A run that tells its work.
+pub(crate) const STATS: &[&str] = &["finch", "run", "--stats"];
+
 #[derive(Clone, Copy)]
 pub(crate) struct Case {
     pub(crate) words: &'static [&'static str],

@@ -1,5 +1,7 @@
 //! Statuses and texts of single calls: words without a reading, faults of each port, want of memory, several workers.
-use crate::case::{Case, PRODUCT, PRODUCT_TEXT, REFUSED, ROOM, RUN, ends_as, words};
+use crate::case::{
+    Case, PRODUCT, PRODUCT_TEXT, PRODUCT_WORK, REFUSED, ROOM, RUN, STATS, ends_as, words,
+};
 use fin_cli::{asks_workers, finch, finch_one};
 use fin_ports::{MemSink, MemSource};
 use std::test::Fail;
@@ -15,7 +17,7 @@ const EMPTY_TEXT: &[u8] = b"tensor y\nformat dense element\nfill 0\nshape 0\nval
 const USAGE: &[u8] =
     b"usage: finch run,check,plain,gen [--workers N] [--budget N] [--stats] [--seed N] [--size N]\n";
 
-const CASES: [Case; 19] = [
+const CASES: [Case; 22] = [
     RUN,
     Case { most: 1, ..RUN },
     Case {
@@ -96,11 +98,33 @@ const CASES: [Case; 19] = [
         err: b"refused",
         ..REFUSED
     },
-    // the line of the work fails behind the whole output
+    // a check has no work to tell
     Case {
-        words: &["finch", "run", "--stats"],
+        words: &["finch", "check", "--stats"],
+        out: b"ok\n",
+        ..RUN
+    },
+    // behind the whole output the line of the work fails, at once or within
+    Case {
+        words: STATS,
         err_fails: &[0],
         status: 4,
+        err: b"write fault\n",
+        ..RUN
+    },
+    Case {
+        words: STATS,
+        err_fails: &[1],
+        status: 4,
+        err: b"work 19write fault\n",
+        ..RUN
+    },
+    // where the output fails there is no such line
+    Case {
+        words: STATS,
+        out_fails: &[2],
+        status: 4,
+        out: b"tensor y\nforma",
         err: b"write fault\n",
         ..RUN
     },
@@ -142,7 +166,7 @@ fn each_call_ends_as_it_is_due(rt: HostRuntime) -> Result<(), Fail> {
 #[test]
 fn a_refused_allocation_is_told(rt: HostRuntime) -> Result<(), Fail> {
     let alloc = rt.alloc();
-    let Ok(words) = words(alloc, RUN.words) else {
+    let Ok(words) = words(alloc, STATS) else {
         return Ok(());
     };
     let (Ok(job), Ok(mut out), Ok(mut err)) = (
@@ -162,6 +186,7 @@ fn a_refused_allocation_is_told(rt: HostRuntime) -> Result<(), Fail> {
     } else {
         assert_eq!(rt; status, 0);
         assert_eq!(rt; out.taken(), PRODUCT_TEXT);
+        assert_eq!(rt; err.taken(), PRODUCT_WORK);
     }
     Ok(())
 }
@@ -170,12 +195,13 @@ fn a_refused_allocation_is_told(rt: HostRuntime) -> Result<(), Fail> {
 #[test]
 fn several_workers_are_served(rt: HostRuntime) -> Result<(), Fail> {
     let alloc = rt.alloc();
-    let words = words(alloc, &["finch", "run", "--workers", "2"])?;
+    let words = words(alloc, &["finch", "run", "--workers", "2", "--stats"])?;
     let mut source = MemSource::new(PRODUCT.to_vec(alloc)?, 7, Vec::new(alloc));
     let mut out = MemSink::new(alloc, ROOM, 7, Vec::new(alloc))?;
     let mut err = MemSink::new(alloc, ROOM, 7, Vec::new(alloc))?;
     let status = finch(&rt, alloc, &words, &mut source, &mut out, &mut err);
     assert_eq!(rt; status, 0);
     assert_eq!(rt; out.taken(), PRODUCT_TEXT);
+    assert_eq!(rt; err.taken(), PRODUCT_WORK);
     Ok(())
 }

@@ -1,12 +1,10 @@
 //! Jobs that run, in both modes that run them, and their budgets.
-use crate::case::{Case, REFUSED, RUN, ends_as};
+use crate::case::{Case, REFUSED, RUN, STATS, ends_as};
 use crate::examples::EXAMPLES;
 use crate::rows::{
     ENDLESS, LARGE, MASK, MASK_TEXT, ROWS, SAME, SAME_TEXT, SAME_WORK, TIMES, TIMES_TEXT,
 };
 use std::test::Fail;
-
-const STATS: &[&str] = &["finch", "run", "--stats"];
 
 const PLAIN: &[&str] = &["finch", "plain", "--stats"];
 
